@@ -1,0 +1,24 @@
+-- What a codeword is: by its roots (document 000, equations (1) and (3), with 2t as the last power; document 01, "Fields and
+-- codes"). The first root's exponent b and the number r of consecutive roots are parameters.
+--   valueAt m c e       the polynomial with the coefficients c 0, .., c (n - 1), at a^e
+--   ZeroFrom m b r c    it is zero at a^b, .., a^(b + r - 1)
+--   RootsFrom m b r w   the same of a word of n bits
+--   Codeword m t w      "its polynomial is zero at a^1, a^2, .., a^(2t)"
+-- Assumes nothing.
+use mathlib.Core.Path.{_≡_}
+use Prim.Native.Nat.{ℕ, _+_, _*_, _^_, _<_, _≤_}
+use Rattle.field.specs.Field.{xorSum, times, alphaTo, lengthOf}
+use Rattle.codes.specs.Word.{bitOf}
+
+unfoldable pub valueAt : ℕ → (ℕ → ℕ) → ℕ → ℕ
+valueAt m c e = xorSum (lengthOf m) (λ p. times m (c p) (alphaTo m (p * e)))
+
+abbrev pub ZeroFrom : ℕ → ℕ → ℕ → (ℕ → ℕ) → Type 0
+ZeroFrom m b r c = (e : ℕ) → b ≤ e → e < b + r → valueAt m c e ≡ 0
+
+pub record RootsFrom (m b r w : ℕ) : Type 0 where
+  pub bits : w < 2 ^ lengthOf m
+  pub roots : ZeroFrom m b r (bitOf w)
+
+abbrev pub Codeword : ℕ → ℕ → ℕ → Type 0
+Codeword m t w = RootsFrom m 1 (2 * t) w

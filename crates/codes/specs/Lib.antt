@@ -1,0 +1,5 @@
+pub mod Word
+pub mod Code
+pub mod Codeword
+pub mod Lagrange
+pub mod Generator

@@ -1,0 +1,3 @@
+pub mod Below
+pub mod Field
+pub mod Laws
