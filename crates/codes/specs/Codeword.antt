@@ -1,5 +1,6 @@
 -- What a codeword is: by its roots (document 000, equations (1) and (3), with 2t as the last power; document 01, "Fields and
 -- codes"). The first root's exponent b and the number r of consecutive roots are parameters.
+--   WordOver m c        c is a word of field elements: a symbol for each position
 --   valueAt m c e       the polynomial with the coefficients c 0, .., c (n - 1), at a^e
 --   ZeroFrom m b r c    it is zero at a^b, .., a^(b + r - 1)
 --   RootsFrom m b r w   the same of a word of n bits
@@ -9,6 +10,9 @@ use mathlib.Core.Path.{_≡_}
 use Prim.Native.Nat.{ℕ, _+_, _*_, _^_, _<_, _≤_}
 use Rattle.field.specs.Field.{xorSum, times, alphaTo, lengthOf}
 use Rattle.codes.specs.Word.{bitOf}
+
+abbrev pub WordOver : ℕ → (ℕ → ℕ) → Type 0
+WordOver m c = (p : ℕ) → p < lengthOf m → c p < 2 ^ m
 
 unfoldable pub valueAt : ℕ → (ℕ → ℕ) → ℕ → ℕ
 valueAt m c e = xorSum (lengthOf m) (λ p. times m (c p) (alphaTo m (p * e)))

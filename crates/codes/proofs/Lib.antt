@@ -1,0 +1,11 @@
+pub mod WordLaws
+pub mod Pigeon
+pub mod RootLaws
+pub mod LagrangeLaws
+pub mod ShortForm
+pub mod PlacesFixWord
+pub mod PolynomialLaws
+pub mod Conjugates
+pub mod GeneratorRight
+pub mod SystematicWord
+pub mod CodewordsApart
