@@ -40,7 +40,7 @@ module _ (m : ℕ) (soft : List ℤ) where
     pub lowest : (v : ℕ) → Member v l → far v ≡ far (x .word) → x .word ≤ v
 
   pub record Holds (l : List ℕ) (x : Best) : Type 0 where
-    pub wordOf : x .count ≡ length l
+    pub number : x .count ≡ length l
     pub leads : T (x .found) → Leads l x
     pub any : (v : ℕ) → Member v l → T (x .found)
 
