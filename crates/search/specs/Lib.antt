@@ -1,3 +1,5 @@
 pub mod Candidate
 pub mod Best
 pub mod Search
+pub mod Plan
+pub mod ByRank
