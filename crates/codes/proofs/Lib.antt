@@ -9,3 +9,5 @@ pub mod Conjugates
 pub mod GeneratorRight
 pub mod SystematicWord
 pub mod CodewordsApart
+pub mod ClaimsShown
+pub mod Anchors

@@ -3,3 +3,4 @@ pub mod Code
 pub mod Codeword
 pub mod Lagrange
 pub mod Generator
+pub mod Claims

@@ -6,3 +6,4 @@ pub mod ProductLaws
 pub mod ProductSteps
 pub mod FieldLaws
 pub mod RingLaws
+pub mod Anchors
