@@ -1,6 +1,6 @@
 -- The claims of specs/Claims, each under its name. Assumes nothing.
-use mathlib.Core.Path.{_≡_, refl, sym, ap, ap₂, _∙_, subst}
-use Prim.Native.Nat.{ℕ, zero, suc, _+_, _-_, _*_, _^_, _<_}
+use mathlib.Core.Path.{_≡_, sym, ap, ap₂, _∙_, subst}
+use Prim.Native.Nat.{ℕ, _-_, _*_, _^_, _<_}
 use mathlib.Core.Logic.{_↔_}
 use mathlib.Core.List.{List, [], _∷_}
 use native.Mathlib.Omega.{arith}
@@ -8,7 +8,7 @@ use Rattle.field.specs.Field.{times, inverseOf, alphaTo, lengthOf}
 use Rattle.field.specs.Laws.{Laws}
 use Rattle.field.proofs.FieldLaws.{laws}
 use Rattle.field.proofs.RingLaws.{inverse-only}
-use Rattle.codes.specs.Code.{Known, dimensionOf, parityOf, generatorOf}
+use Rattle.codes.specs.Code.{dimensionOf, parityOf, generatorOf}
 use Rattle.codes.specs.Codeword.{Codeword}
 use Rattle.codes.specs.Lagrange.{others, quotients, cell}
 use Rattle.codes.specs.Generator.{multiple, systematic}

@@ -36,7 +36,7 @@ module _ (m : ℕ) (F : Laws m) (b r : ℕ) (R : ℕ → ℕ) where
   abbrev K : ℕ
   K = lengthOf m - r
 
-  cell-lt : (j p : ℕ) → cell m (1 - b) R K j p < 2 ^ m
+  pub cell-lt : (j p : ℕ) → cell m (1 - b) R K j p < 2 ^ m
   unfolding cell
   cell-lt j p = times-lt _ _
 
@@ -63,7 +63,7 @@ module _ (m : ℕ) (F : Laws m) (b r : ℕ) (R : ℕ → ℕ) where
         (λ j hj n. ap (λ (u : ℕ). times m u (cell m (1 - b) R K j p)) (bit-power-other (R i) (R j) (λ e. n (ord .places .apart j i (omega arith) (omega arith) e))) ∙ zero-times m F _)
         ∙ ap (λ (u : ℕ). times m u (cell m (1 - b) R K i p)) (bit-power-same (R i)) ∙ comm 1 _ ∙ one _ (cell-lt i p))
 
-    kept : (v i : ℕ) → i < K → symbol m b r R v (R i) ≡ bitOf v (R i)
+    pub kept : (v i : ℕ) → i < K → symbol m b r R v (R i) ≡ bitOf v (R i)
     unfolding symbol
     kept v i hi =
         lagrange-at m F (1 - b) R K (λ j. bitOf v (R j))
