@@ -137,7 +137,7 @@ unfolding hard
 hard-lt soft p = hardOf-lt (softAt soft p)
 
 -- the differences by rank are those on the reliable set
-apart-total : (R : ℕ → ℕ) (k i v c : ℕ) → apartFrom R k i v c ≡ total k (λ j. apart R (i + j) v c)
+pub apart-total : (R : ℕ → ℕ) (k i v c : ℕ) → apartFrom R k i v c ≡ total k (λ j. apart R (i + j) v c)
 unfolding apartFrom
 apart-total R zero i v c = sym (total-zero 0 (λ j. apart R (i + j) v c) (λ p l. absurd (omega arith)))
 apart-total R (suc k) i v c =

@@ -132,13 +132,13 @@ module _ (R : ℕ → ℕ) where
       }
 
       -- a codeword is what its bits on the reliable ranks complete to, and what they complete to is a codeword
-      leaf← : (v c : ℕ) → RootsFrom m b r c → ((j : ℕ) → j < K → bitOf c (R j) ≡ bitOf v (R j)) → T (binary m b r R v) × (c ≡ completed m b r R v)
+      pub leaf← : (v c : ℕ) → RootsFrom m b r c → ((j : ℕ) → j < K → bitOf c (R j) ≡ bitOf v (R j)) → T (binary m b r R v) × (c ≡ completed m b r R v)
       unfolding binary completed symbol
       leaf← v c w h =
           let t = fits→binary m F b (1 - b) (omega arith) R K r (λ j. bitOf v (R j)) ord (omega arith) (λ j _. bit-elem m F v (R j)) c (w .bits, w .roots, h) in
           (all-of r _ (λ i l. lt→ltb _ 2 (t .0 (R (K + i)) (ord .places .inside (K + i) (omega arith)))), t .1)
 
-      leaf→ : (v : ℕ) → T (binary m b r R v) → RootsFrom m b r (completed m b r R v) × ((j : ℕ) → j < K → bitOf (completed m b r R v) (R j) ≡ bitOf v (R j))
+      pub leaf→ : (v : ℕ) → T (binary m b r R v) → RootsFrom m b r (completed m b r R v) × ((j : ℕ) → j < K → bitOf (completed m b r R v) (R j) ≡ bitOf v (R j))
       unfolding binary completed symbol
       leaf→ v t =
           let u = binary→fits m F b (1 - b) (omega arith) R K r (λ j. bitOf v (R j)) ord (omega arith) (λ j _. bit-elem m F v (R j)) two in

@@ -6,3 +6,5 @@ pub mod BestIsNearest
 pub mod BitSumLaws
 pub mod RankBits
 pub mod RankSearch
+pub mod OnePatternEach
+pub mod ClaimsShown

@@ -35,7 +35,7 @@ use Rattle.search.proofs.BitSumLaws.{xor-flip, xor-none}
 use Rattle.search.proofs.RankBits.{bit-moved-low, bit-moved, outside-bit, spread-at, spread-lt, sum-bits-total, xor-bits-sum}
 
 -- where bits x and h ⊕ x stand, they differ exactly when x is 1
-apart-by : (h x w : ℕ) → x < 2 → only (not (eqb (h ⊕ x) h)) w ≡ x * w
+pub apart-by : (h x w : ℕ) → x < 2 → only (not (eqb (h ⊕ x) h)) w ≡ x * w
 apart-by h zero w l = only-no (not (eqb (h ⊕ 0) h)) w (λ t. not-eqb (h ⊕ 0) h t (xor-zero h)) ∙ omega arith
 apart-by h (suc zero) w l =
     only-yes (not (eqb (h ⊕ 1) h)) w (ne→not (h ⊕ 1) h (λ e. let z : _≡_ {A = ℕ} 1 0 = sym (zero-xor 1) ∙ ap (λ (u : ℕ). u ⊕ 1) (sym (xor-self h)) ∙ xor-assoc h h 1 ∙ ap (λ (u : ℕ). h ⊕ u) e ∙ xor-self h in omega arith))

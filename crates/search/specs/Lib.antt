@@ -3,3 +3,4 @@ pub mod Best
 pub mod Search
 pub mod Plan
 pub mod ByRank
+pub mod Claims
