@@ -1,0 +1,2 @@
+pub mod RemainderSteps
+pub mod CodecLaws
