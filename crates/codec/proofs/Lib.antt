@@ -1,2 +1,4 @@
 pub mod RemainderSteps
 pub mod CodecLaws
+pub mod CodecOneAnswer
+pub mod RoundTrip

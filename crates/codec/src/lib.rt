@@ -8,6 +8,9 @@ use frame::length_of;
 
 pub mod parity; // the word of a message
 
+// What stands for a refusal's number where nothing is refused.
+const TAKEN: u8 = 0;
+
 // Writes the word of a message into the first W bytes of the buffer, and gives 0; or gives a refusal's number.
 pub fn encode(m: u16, t: u16, s: u16, message: u64, buf: &mut [u8]) -> u8
     ensures { λ r. ⌜ EncodeAnswers m t s message (now (buf .entry)) r (now (buf .exit)) ⌝ }
@@ -19,7 +22,7 @@ pub fn encode(m: u16, t: u16, s: u16, message: u64, buf: &mut [u8]) -> u8
     let word = word_of(m, t, message);
     let width = bytes_of(m);
     frame::put_word(word, width, buf);
-    0
+    TAKEN
 }
 
 // What read answers: a refusal's number and message 0, or 0 and the message.
@@ -56,7 +59,7 @@ pub fn read(m: u16, t: u16, s: u16, bytes: &[u8]) -> Reading
         };
     }
     Reading {
-        refusal: 0,
+        refusal: TAKEN,
         message,
     }
 }

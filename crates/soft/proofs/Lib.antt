@@ -1,2 +1,1 @@
 pub mod OrderLaws
-pub mod OrderByKey

@@ -1,0 +1,5 @@
+pub mod SignLaws
+pub mod WordSteps
+pub mod ReceiveSteps
+pub mod InsertSteps
+pub mod SortedOrder
