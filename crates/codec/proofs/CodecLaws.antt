@@ -12,7 +12,8 @@ use Rattle.field.specs.Field.{_⊕_, lengthOf}
 use Rattle.codes.specs.Code.{Known, dimensionOf, parityOf, generatorOf}
 use Rattle.codes.specs.Codeword.{Codeword}
 use Rattle.codes.specs.Generator.{remainderBy, withParity, systematic}
-use Rattle.codes.proofs.SystematicWord.{parity-full, high-lt, systematic-high, systematic-codeword, codeword-high}
+use Rattle.codes.proofs.ShapeLaws.{parity-full}
+use Rattle.codes.proofs.SystematicWord.{high-lt, systematic-high, systematic-codeword, codeword-high}
 use Rattle.frame.specs.Packing.{written, wordIn}
 use Rattle.frame.specs.Refusal.{encodeRefusal, readRefusal}
 use Rattle.frame.proofs.RefusalLaws.{EncodePassed, ReadPassed, encode-passed, read-passed}

@@ -1,15 +1,14 @@
 -- What encode wrote, read brings back; and what read accepts, encode writes again. Assumes nothing.
 use mathlib.Core.Path.{_≡_, refl, sym, ap, _∙_, subst}
 use mathlib.Core.List.{List}
-use Prim.Native.Nat.{ℕ, _-_, _/_, _^_, _<_, _≤_}
+use Prim.Native.Nat.{ℕ, _-_, _/_, _^_, _<_}
 use native.Mathlib.Nat.{div-lt-iff-lt-mul}
 use native.Mathlib.Omega.{arith}
 use lib.ListN.{length, getD}
 use lib.Pow.{pow-pos, pow-add}
-use Rattle.field.specs.Field.{lengthOf}
 use Rattle.codes.specs.Code.{dimensionOf, parityOf}
-use Rattle.codes.proofs.SystematicWord.{parity-full, codeword-high}
-use Rattle.frame.specs.Shape.{bytesOf}
+use Rattle.codes.proofs.ShapeLaws.{parity-full}
+use Rattle.codes.proofs.SystematicWord.{codeword-high}
 use Rattle.frame.specs.Packing.{written, wordIn}
 use Rattle.frame.specs.Refusal.{encodeRefusal, readRefusal}
 use Rattle.frame.proofs.PackingLaws.{written-length, written-read, written-same}

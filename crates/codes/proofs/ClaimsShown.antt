@@ -16,8 +16,9 @@ use Rattle.codes.specs.Claims.{GeneratorsAreRight, OneWordForEachMessage
 use Rattle.codes.proofs.RootLaws.{one-lt}
 use Rattle.codes.proofs.LagrangeLaws.{roots→lagrange, lagrange→roots}
 use Rattle.codes.proofs.ShortForm.{cell-is-short}
+use Rattle.codes.proofs.ShapeLaws.{parity-full}
 use Rattle.codes.proofs.GeneratorRight.{good, exactly}
-use Rattle.codes.proofs.SystematicWord.{parity-full, systematic-high, systematic-codeword, codeword-high}
+use Rattle.codes.proofs.SystematicWord.{systematic-high, systematic-codeword, codeword-high}
 use Rattle.codes.proofs.CodewordsApart.{codewords-apart}
 
 pub generators-are-right : GeneratorsAreRight

@@ -25,6 +25,7 @@ use Rattle.codes.proofs.WordLaws.{bit-xor, bit-zero, bit-high, bit-doub
 use Rattle.codes.proofs.RootLaws.{xorsum-times, pw-lt, pw-pos}
 use Rattle.codes.proofs.LagrangeLaws.{at-xor}
 use Rattle.codes.proofs.PolynomialLaws.{evaluate}
+use Rattle.codes.proofs.ShapeLaws.{each-code}
 use Rattle.codes.proofs.Conjugates.{listOf, evaluate-sum, bit-elem, later, low-zero}
 
 bit-times-odd : (b g : ℕ) → b < 2 → g % 2 ≡ 1 → bitTimes b g % 2 ≡ b
@@ -174,13 +175,6 @@ test-says m o r d g F x = record {
       (subst (λ (u : ℕ). T (eqb (start m o i * 2 ^ turn m o i % lengthOf m) u)) e (eqb-refl (start m o i * 2 ^ turn m o i % lengthOf m)))));
 }
 
--- a test that passes for the nine codes passes for each
-pub at-known : (f : ℕ → ℕ → Bool) → T (all 3 (λ i. all 3 (λ j. f (4 + i) (1 + j)))) → (m t : ℕ) → Known m t → T (f m t)
-at-known f x m t k =
-    subst (λ (m : ℕ). T (f m t)) (omega (arith, k .m-low))
-    (subst (λ (t : ℕ). T (f (4 + (m - 4)) t)) (omega (arith, k .t-low))
-    (below 3 (λ j. f (4 + (m - 4)) (1 + j)) (below 3 (λ i. all 3 (λ j. f (4 + i) (1 + j))) x (m - 4) (omega (arith, k .m-high))) (t - 1) (omega (arith, k .t-high))))
-
 nine : T (all 3 (λ i. all 3 (λ j. right (4 + i) 1 (2 * (1 + j)) (parityOf (4 + i) (1 + j)) (generatorOf (4 + i) (1 + j)))))
 unfolding entryOf dimensionOf parityOf generatorOf lengthOf evaluate listOf bitOf alphaTo times shiftAdd timesAlpha reduction modulus bitTimes _⊕_
 nine = tt
@@ -188,7 +182,7 @@ nine = tt
 pub good : (m t : ℕ) → Known m t → Good m 1 (2 * t) (parityOf m t) (generatorOf m t)
 good m t k =
     test-says m 1 (2 * t) (parityOf m t) (generatorOf m t) (laws m (k .m-low) (k .m-high))
-    (at-known (λ m t. right m 1 (2 * t) (parityOf m t) (generatorOf m t)) nine m t k)
+    (each-code (λ m t. right m 1 (2 * t) (parityOf m t) (generatorOf m t)) nine m t k)
 
 -- the words with the roots are the multiples of the generator
 module _ (m o r d g : ℕ) (F : Laws m) (G : Good m o r d g) where

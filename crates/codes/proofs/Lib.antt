@@ -1,3 +1,4 @@
+pub mod ShapeLaws
 pub mod WordLaws
 pub mod Pigeon
 pub mod RootLaws

@@ -16,7 +16,8 @@ use Rattle.codes.specs.Code.{entryOf, dimensionOf, parityOf, generatorOf
 use Rattle.codes.specs.Codeword.{valueAt, ZeroFrom, Codeword}
 use Rattle.codes.specs.Generator.{systematic, remainderBy, withParity}
 use Rattle.codes.proofs.WordLaws.{bit-shift, bit-lt}
-use Rattle.codes.proofs.GeneratorRight.{at-bits, at-bit-times, at-shift, at-known, good}
+use Rattle.codes.proofs.ShapeLaws.{each-code, parity-full}
+use Rattle.codes.proofs.GeneratorRight.{at-bits, at-bit-times, at-shift, good}
 
 div-zero : (x s : ℕ) → x < 2 ^ s → x / 2 ^ s ≡ 0
 div-zero x s h = div-eq-of-lt h
@@ -102,15 +103,7 @@ unfolding entryOf dimensionOf parityOf generatorOf lengthOf
 tops = tt
 
 pub top : (m t : ℕ) → Known m t → generatorOf m t / 2 ^ parityOf m t ≡ 1
-top m t k = eqb→eq _ _ (at-known (λ m t. eqb (generatorOf m t / 2 ^ parityOf m t) 1) tops m t k)
-
--- n - k and k are n
-fulls : T (all 3 (λ i. all 3 (λ j. eqb (parityOf (4 + i) (1 + j) + dimensionOf (4 + i) (1 + j)) (lengthOf (4 + i)))))
-unfolding entryOf dimensionOf parityOf lengthOf
-fulls = tt
-
-pub parity-full : (m t : ℕ) → Known m t → parityOf m t + dimensionOf m t ≡ lengthOf m
-parity-full m t k = eqb→eq _ _ (at-known (λ m t. eqb (parityOf m t + dimensionOf m t) (lengthOf m)) fulls m t k)
+top m t k = eqb→eq _ _ (each-code (λ m t. eqb (generatorOf m t / 2 ^ parityOf m t) 1) tops m t k)
 
 -- a word whose high bits are below 2^k
 pub high-lt : (w d k : ℕ) → w / 2 ^ d < 2 ^ k → w < 2 ^ (k + d)

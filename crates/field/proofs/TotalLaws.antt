@@ -19,10 +19,6 @@ pub only-no : (b : Bool) (x : ℕ) → (T b → ⊥) → only b x ≡ 0
 only-no true x t = absurd (t tt)
 only-no false x t = refl
 
-pub only-le : (a b : Bool) (x : ℕ) → (T a → T b) → only a x ≤ only b x
-only-le true b x f = let e = only-yes b x (f tt) in omega arith
-only-le false b x f = omega arith
-
 -- totals
 pub total-suc : (n : ℕ) (f : ℕ → ℕ) → total (suc n) f ≡ total n f + f n
 unfolding total

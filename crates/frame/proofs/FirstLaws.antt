@@ -1,4 +1,9 @@
--- A list of checks in two parts: the second part counts where the first gives 0. Assumes nothing.
+-- A list of checks in two parts: the second part counts where the first gives 0.
+--   numbered checks              no check of the list has the number 0
+--   first-given, code-given      the first part's number, where it is not 0, is the whole list's
+--   first-passed, code-clear     the second part's, where the first gives 0
+--   first-both                   either, as the code's `first` picks it
+-- Assumes nothing.
 use mathlib.Core.Path.{_≡_, refl, sym, _∙_}
 use mathlib.Core.Bool.{Bool, true, false, cond, _&&_}
 use mathlib.Core.List.{List, [], _∷_, _++_}
@@ -7,9 +12,8 @@ use native.Mathlib.Omega.{arith}
 use borrow.Author.Tests.{ne-eqb}
 use lib.Dec.{T, ltb, ltb→lt, eqb}
 use Rattle.field.proofs.TestLaws.{and-left, and-right}
-use Rattle.frame.specs.Refusal.{Check, firstMet}
+use Rattle.frame.specs.Refusal.{Check, unknownCode, tooShort, firstMet, codeRefusal}
 
--- no check of the list has the number 0
 abbrev pub numbered : List Check → Bool
 numbered [] = true
 numbered (c ∷ cs) = ltb 0 (c .1) && numbered cs
@@ -26,7 +30,8 @@ module _ (ys : List Check) where
       go false k l e = e
 
   -- the number a of the first part and the number b of the second
-  pub first-both : (xs : List Check) → T (numbered xs) → {a b r : ℕ} → a ≡ firstMet xs → b ≡ firstMet ys → r ≡ cond (eqb a 0) b a → r ≡ firstMet (xs ++ ys)
+  pub first-both : (xs : List Check) → T (numbered xs) → {a b r : ℕ} → a ≡ firstMet xs → b ≡ firstMet ys → r ≡ cond (eqb a 0) b a
+      → r ≡ firstMet (xs ++ ys)
   first-both xs n p q e = e ∙ rw (p, q) (sym (first-append xs n))
 
   pub first-given : (xs : List Check) → T (numbered xs) → {a : ℕ} → a ≡ firstMet xs → 0 < a → a ≡ firstMet (xs ++ ys)
@@ -34,3 +39,13 @@ module _ (ys : List Check) where
 
   pub first-passed : (xs : List Check) → T (numbered xs) → {r : ℕ} → firstMet xs ≡ 0 → r ≡ firstMet ys → r ≡ firstMet (xs ++ ys)
   first-passed xs n p e = first-both xs n (sym p) e refl
+
+-- a call's checks, whatever follows the two with which every call begins
+module _ (m t s : ℕ) (later : List Check) where
+  pub code-given : {a : ℕ} → a ≡ codeRefusal m t s → 0 < a → a ≡ firstMet (unknownCode m t ∷ tooShort m t s ∷ later)
+  unfolding codeRefusal
+  code-given p l = first-given later (unknownCode m t ∷ tooShort m t s ∷ []) tt p l
+
+  pub code-clear : {r : ℕ} → codeRefusal m t s ≡ 0 → r ≡ firstMet later → r ≡ firstMet (unknownCode m t ∷ tooShort m t s ∷ later)
+  unfolding codeRefusal
+  code-clear p e = first-passed later (unknownCode m t ∷ tooShort m t s ∷ []) tt p e

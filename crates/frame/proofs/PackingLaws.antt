@@ -23,7 +23,8 @@ unpacked-packed (suc n) w rest h =
     let i : unpacked (packed (w / 256) n ++ rest) n ≡ w / 256 = unpacked-packed n (w / 256) rest (omega (arith, pow-suc 256 n)) in
     omega arith
 
-pub packed-unpacked : (n : ℕ) (bytes : List ℕ) → n ≤ length bytes → ((i : ℕ) → i < n → getD bytes i 0 < 256) → packed (unpacked bytes n) n ≡ take n bytes
+pub packed-unpacked : (n : ℕ) (bytes : List ℕ) → n ≤ length bytes → ((i : ℕ) → i < n → getD bytes i 0 < 256)
+    → packed (unpacked bytes n) n ≡ take n bytes
 unfolding packed unpacked
 packed-unpacked zero bytes l h = refl
 packed-unpacked (suc n) [] l h = absurd (omega arith)

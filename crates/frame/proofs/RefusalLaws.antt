@@ -1,5 +1,7 @@
--- What a call has passed when it is not refused by its numbers, and how a list of checks falls into parts. Assumes nothing.
+-- What a call has passed when its checks give 0.
 --   EncodePassed, ReadPassed, DecodePassed   what the passed checks of each call leave
+--   code-passed, encode-passed, ..           that they leave it
+-- Assumes nothing.
 use mathlib.Core.Path.{_≡_}
 use mathlib.Core.Bool.{Bool, true, false, not, cond, _&&_}
 use Prim.Native.Nat.{ℕ, suc, _-_, _^_, _<_, _≤_}
@@ -62,13 +64,9 @@ module _ (m t s : ℕ) where
   later : (x : ℕ) → cond (unknownCode m t .0) 1 (cond (tooShort m t s .0) 2 x) ≡ 0 → x ≡ 0
   later x e = not-met (tooShort m t s .0) 1 x (not-met (unknownCode m t .0) 0 _ e .1) .1
 
-  pub code-known : codeRefusal m t s ≡ 0 → Known m t
+  pub code-passed : codeRefusal m t s ≡ 0 → Known m t × (s < dimensionOf m t)
   unfolding codeRefusal
-  code-known e = known-by m t _ e
-
-  pub code-short : codeRefusal m t s ≡ 0 → s < dimensionOf m t
-  unfolding codeRefusal
-  code-short e = short-by 0 (not-met (unknownCode m t .0) 0 _ e .1)
+  code-passed e = (known-by m t _ e, short-by 0 (not-met (unknownCode m t .0) 0 _ e .1))
 
   pub encode-known : (message room : ℕ) → encodeRefusal m t s message room ≡ 0 → Known m t
   unfolding encodeRefusal
@@ -85,10 +83,6 @@ module _ (m t s : ℕ) where
         room = room-by room 0 (a .1);
       }
 
-  pub read-known : (room : ℕ) → readRefusal m t s room ≡ 0 → Known m t
-  unfolding readRefusal
-  read-known room e = known-by m t _ e
-
   pub read-passed : (room : ℕ) → readRefusal m t s room ≡ 0 → ReadPassed m t s room
   unfolding readRefusal
   read-passed room e =
@@ -97,10 +91,6 @@ module _ (m t s : ℕ) where
         short = short-by _ (not-met (unknownCode m t .0) 0 _ e .1);
         room = room-by room 0 (later _ e);
       }
-
-  pub decode-known : (order values room : ℕ) → decodeRefusal m t s order values room ≡ 0 → Known m t
-  unfolding decodeRefusal
-  decode-known order values room e = known-by m t _ e
 
   pub decode-passed : (order values room : ℕ) → decodeRefusal m t s order values room ≡ 0 → DecodePassed m t s order values room
   unfolding decodeRefusal

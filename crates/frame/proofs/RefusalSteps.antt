@@ -10,7 +10,7 @@ use Rattle.field.proofs.TestLaws.{and-both, ne→not, not-eqb, decT}
 use Rattle.codes.specs.Code.{Known, dimensionOf}
 use Rattle.frame.specs.Shape.{bytesOf}
 use Rattle.frame.specs.Refusal.{unknownCode, tooShort, highOrder, wrongCount, smallBuffer, largeMessage}
-use Rattle.frame.specs.Refusal.{encodeRefusal, readRefusal, decodeRefusal}
+use Rattle.frame.specs.Refusal.{encodeRefusal, readRefusal}
 use Rattle.frame.proofs.RefusalLaws.{known-by}
 
 -- a check that is met gives its number, one that is not leaves it to the next
@@ -71,64 +71,11 @@ pub past-5 : (m room x : ℕ) → bytesOf m ≤ room → cond (smallBuffer m roo
 past-5 m room x h = unmet (smallBuffer m room .0) 5 x (λ u. omega (arith, ltb→lt room (bytesOf m) u))
 
 module _ (m t s message room : ℕ) where
-  pub encode-refuses-1 : (Known m t → ⊥) → encodeRefusal m t s message room ≡ 1
-  unfolding encodeRefusal
-  encode-refuses-1 h = at-1 m t _ h
-
-  pub encode-refuses-2 : Known m t → dimensionOf m t ≤ s → encodeRefusal m t s message room ≡ 2
-  unfolding encodeRefusal
-  encode-refuses-2 k h = past-1 m t _ k ∙ at-2 m t s _ h
-
-  pub encode-refuses-7 : Known m t → s < dimensionOf m t → 2 ^ (dimensionOf m t - s) ≤ message → encodeRefusal m t s message room ≡ 7
-  unfolding encodeRefusal
-  encode-refuses-7 k hs h = past-1 m t _ k ∙ past-2 m t s _ hs ∙ at-7 m t s message _ h
-
-  pub encode-refuses-5 : Known m t → s < dimensionOf m t → message < 2 ^ (dimensionOf m t - s) → room < bytesOf m → encodeRefusal m t s message room ≡ 5
-  unfolding encodeRefusal
-  encode-refuses-5 k hs hm h = past-1 m t _ k ∙ past-2 m t s _ hs ∙ past-7 m t s message _ hm ∙ at-5 m room 0 h
-
   pub encode-passes : Known m t → s < dimensionOf m t → message < 2 ^ (dimensionOf m t - s) → bytesOf m ≤ room → encodeRefusal m t s message room ≡ 0
   unfolding encodeRefusal
   encode-passes k hs hm h = past-1 m t _ k ∙ past-2 m t s _ hs ∙ past-7 m t s message _ hm ∙ past-5 m room 0 h
 
 module _ (m t s room : ℕ) where
-  pub read-refuses-1 : (Known m t → ⊥) → readRefusal m t s room ≡ 1
-  unfolding readRefusal
-  read-refuses-1 h = at-1 m t _ h
-
-  pub read-refuses-2 : Known m t → dimensionOf m t ≤ s → readRefusal m t s room ≡ 2
-  unfolding readRefusal
-  read-refuses-2 k h = past-1 m t _ k ∙ at-2 m t s _ h
-
-  pub read-refuses-5 : Known m t → s < dimensionOf m t → room < bytesOf m → readRefusal m t s room ≡ 5
-  unfolding readRefusal
-  read-refuses-5 k hs h = past-1 m t _ k ∙ past-2 m t s _ hs ∙ at-5 m room 0 h
-
   pub read-passes : Known m t → s < dimensionOf m t → bytesOf m ≤ room → readRefusal m t s room ≡ 0
   unfolding readRefusal
   read-passes k hs h = past-1 m t _ k ∙ past-2 m t s _ hs ∙ past-5 m room 0 h
-
-module _ (m t s order values room : ℕ) where
-  pub decode-refuses-1 : (Known m t → ⊥) → decodeRefusal m t s order values room ≡ 1
-  unfolding decodeRefusal
-  decode-refuses-1 h = at-1 m t _ h
-
-  pub decode-refuses-2 : Known m t → dimensionOf m t ≤ s → decodeRefusal m t s order values room ≡ 2
-  unfolding decodeRefusal
-  decode-refuses-2 k h = past-1 m t _ k ∙ at-2 m t s _ h
-
-  pub decode-refuses-3 : Known m t → s < dimensionOf m t → 3 < order → decodeRefusal m t s order values room ≡ 3
-  unfolding decodeRefusal
-  decode-refuses-3 k hs h = past-1 m t _ k ∙ past-2 m t s _ hs ∙ at-3 order _ h
-
-  pub decode-refuses-4 : Known m t → s < dimensionOf m t → order ≤ 3 → values ≢ lengthOf m - s → decodeRefusal m t s order values room ≡ 4
-  unfolding decodeRefusal
-  decode-refuses-4 k hs ho h = past-1 m t _ k ∙ past-2 m t s _ hs ∙ past-3 order _ ho ∙ at-4 m s values _ h
-
-  pub decode-refuses-5 : Known m t → s < dimensionOf m t → order ≤ 3 → values ≡ lengthOf m - s → room < bytesOf m → decodeRefusal m t s order values room ≡ 5
-  unfolding decodeRefusal
-  decode-refuses-5 k hs ho hc h = past-1 m t _ k ∙ past-2 m t s _ hs ∙ past-3 order _ ho ∙ past-4 m s values _ hc ∙ at-5 m room 0 h
-
-  pub decode-passes : Known m t → s < dimensionOf m t → order ≤ 3 → values ≡ lengthOf m - s → bytesOf m ≤ room → decodeRefusal m t s order values room ≡ 0
-  unfolding decodeRefusal
-  decode-passes k hs ho hc h = past-1 m t _ k ∙ past-2 m t s _ hs ∙ past-3 order _ ho ∙ past-4 m s values _ hc ∙ past-5 m room 0 h

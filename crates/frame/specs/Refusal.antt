@@ -1,12 +1,9 @@
 -- What each call says no to before it looks at a word (document 01, "What each call says no to"), over numbers: `room` is the
--- length of the lent buffer, `values` the count of soft values. A refusal's number is 1 for an unknown code, 2 for s too
--- large, 3 for the order, 4 for the count of values, 5 for the buffer, 6 where no candidate exists, 7 for the message, 8 for
--- a word that is not to be read, and 0 where nothing is refused. 6 and 8 speak of words, come last, and are not here.
---   Check                    a row of the table: whether it is met, and its number
---   unknownCode .. largeMessage   the rows
---   firstMet checks          the number of the first that is met, 0 where none is
---   codeRefusal              the rows with which every call begins
---   encodeRefusal, readRefusal, decodeRefusal   the rows of each call, in its order
+-- length of the lent buffer, `values` the count of soft values. 0 is no refusal, 1 an unknown code, 2 s too large, 3 the order,
+-- 4 the count, 5 the buffer, 7 the message; 6, no candidate, and 8, a word not to be read, speak of words and are not here.
+--   Check            a row of the table: whether it is met, and its number; the rows are unknownCode to largeMessage
+--   firstMet         the number of the first of a list that is met, 0 where none is
+--   codeRefusal      of the rows with which every call begins; encodeRefusal, readRefusal, decodeRefusal: of each call's
 -- Assumes nothing.
 use mathlib.Core.Bool.{Bool, not, cond, _&&_}
 use mathlib.Core.List.{List, [], _∷_}

@@ -5,6 +5,7 @@ pub mod shape; // n, k and W
 
 pub use packing::put_word;
 pub use packing::word_in;
+pub use refusal::code_refusal;
 pub use refusal::decode_refusal;
 pub use refusal::encode_refusal;
 pub use refusal::read_refusal;

@@ -1,1 +1,2 @@
 pub mod PlanOf
+pub mod Inner

@@ -1,4 +1,15 @@
 // A word that is prepared: what stays for all patterns, made once a word.
+mod by_rank; // what is by position, by rank
+mod table; // the symbol table
+mod unflipped; // the symbols of the unflipped pattern
+
+ghost use mathlib.Core.Path.{_≡_};
+ghost use Prim.Native.Nat.{_-_, _*_, _≤_};
+ghost use lib.ListN.{length};
+ghost use Rattle.field.specs.Field.{lengthOf};
+ghost use Rattle.codes.specs.Code.{Known};
+ghost use Rattle.search.specs.Plan.{Fits, Prepares};
+ghost use Rattle.prepare.specs.PlanOf.{planOf};
 use ranks::Position;
 
 // What is by rank has the reliable set first, then the places outside.
@@ -16,4 +27,50 @@ pub struct Prepared {
     pub weight: [u8; 63],
     // what a 1 at rank j adds to the symbol of row q, at q * 63 + j
     pub symbols: [u8; 378],
+}
+
+// n = 2^m - 1
+fn length_of(m: u8) -> usize
+    requires { ⌜ (4 ≤ m) × (m ≤ 6) ⌝ }
+    ensures { λ r. ⌜ r ≡ lengthOf m ⌝ }
+{
+    (1usize << m) - 1
+}
+
+// The size of the reliable set: the first n-2t ranks.
+fn reliable_size(m: u8, t: u8) -> usize
+    requires { ⌜ Known m t ⌝ }
+    ensures { λ r. ⌜ r ≡ lengthOf m - 2 * t ⌝ }
+{
+    length_of(m) - (2 * t) as usize
+}
+
+// The prepared word of the values received.
+pub fn prepare(m: u8, t: u8, soft: &[i8]) -> Prepared
+    requires { ⌜ Known m t × (length (now soft) ≤ lengthOf m) ⌝ }
+    ensures { λ r. ⌜ Prepares m 1 (2 * t) (now (soft .entry)) (planOf r) × Fits (planOf r) ⌝ }
+{
+    let n = length_of(m);
+    let size = reliable_size(m, t);
+    let rows = n - size;
+    let received = ranks::values::receive(soft);
+    let hards = received.hards;
+    let reliability = received.reliability;
+    let order = ranks::order::order_of(reliability, n);
+    let weight = by_rank::values_by_rank(reliability, order, n);
+    let bits = by_rank::bits_by_rank(hards, order, n);
+    let powers = by_rank::powers(m, n);
+    let points = by_rank::values_by_rank(powers, order, n);
+    let symbols = table::symbol_table(m, points, size, rows);
+    let base = unflipped::row_sums(symbols, bits, size, rows);
+    Prepared {
+        size,
+        rows,
+        hards,
+        sides: bits >> size,
+        base,
+        order,
+        weight,
+        symbols,
+    }
 }

@@ -82,11 +82,6 @@ module _ (F : ℕ → ℕ) where
       rw mul-suc
       (omega (arith, sum-le c n w (λ i l. h i (omega arith)), h n (omega arith), one-mul (F n), mul-le-mul-right {m = bitOf w n} {n = 1} (F n) (omega (arith, bit-lt w n))))
 
-pub sum-ext : (F G : ℕ → ℕ) (n w : ℕ) → ((i : ℕ) → i < n → F i ≡ G i) → sumBits F n w ≡ sumBits G n w
-unfolding sumBits
-sum-ext F G zero w h = refl
-sum-ext F G (suc n) w h = ap₂ (λ (x y : ℕ). x + bitOf w n * y) (sum-ext F G n w (λ i l. h i (omega arith))) (h n (omega arith))
-
 -- rank i stands at position O i
 module _ (O : ℕ → ℕ) where
   -- the word that has the bit of each rank at that rank's position
@@ -104,19 +99,3 @@ module _ (O : ℕ → ℕ) where
   spread-off zero w p h = bit-zero p
   spread-off (suc n) w p h =
       off-step (bitOf w n) (spread n w) p (O n) (bit-lt w n) (h n (omega arith)) (spread-off n w p (λ i k. h i (omega arith)))
-
-  sum-step : (R : ℕ → ℕ) (s x v q t : ℕ) → x < 2 → q < s → bitOf v q ≡ 0 → sumBits R s v ≡ t
-      → sumBits R s (v ⊕ x * 2 ^ q) ≡ t + x * R q
-  sum-step R s zero v q t l k z e = rw (zero-mul (2 ^ q), xor-zero v, zero-mul (R q), e) (omega arith)
-  sum-step R s (suc zero) v q t l k z e = rw (one-mul (2 ^ q), one-mul (R q), sum-new R s v q k z, e)
-  sum-step R s (suc (suc x)) v q t l k z e = absurd (omega arith)
-
-  -- the sum over a word's positions is the sum over its ranks
-  pub spread-sum : (R : ℕ → ℕ) (n s w : ℕ) → ((i : ℕ) → i < n → O i < s) → ((i j : ℕ) → i < j → j < n → O i ≡ O j → ⊥)
-      → sumBits R s (spread n w) ≡ sumBits (λ i. R (O i)) n w
-  unfolding xorBits sumBits
-  spread-sum R zero s w low apart = sum-none R s
-  spread-sum R (suc n) s w low apart =
-      sum-step R s (bitOf w n) (spread n w) (O n) (sumBits (λ i. R (O i)) n w) (bit-lt w n) (low n (omega arith))
-      (spread-off n w (O n) (λ i k q. apart i n k (omega arith) (sym q)))
-      (spread-sum R n s w (λ i l. low i (omega arith)) (λ i j l k. apart i j l (omega arith)))

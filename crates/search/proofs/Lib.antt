@@ -8,3 +8,5 @@ pub mod RankBits
 pub mod RankSearch
 pub mod OnePatternEach
 pub mod ClaimsShown
+pub mod LowestBit
+pub mod Anchors

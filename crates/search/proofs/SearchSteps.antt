@@ -2,17 +2,13 @@
 -- Assumes nothing.
 use mathlib.Core.Path.{_≡_, refl, sym, ap, _∙_}
 use mathlib.Core.Bool.{Bool, true, false}
-use mathlib.Core.List.{List}
 use Prim.Native.Nat.{ℕ, zero, suc, _+_, _-_, _^_, _<_, _≤_}
 use native.Mathlib.Nat.{sub-self}
 use native.Mathlib.Numerals.{add-one}
 use native.Mathlib.Omega.{arith}
-use lib.IntN.{ℤ}
-use Rattle.field.specs.Field.{_⊕_, lengthOf}
-use Rattle.codes.specs.Word.{wordOf}
-use Rattle.soft.specs.Value.{hard}
-use Rattle.search.specs.Best.{Best, Weighed, none, pick, stays, better}
-use Rattle.search.specs.Search.{weighed, patterns, bestOver, binary, completed, seeIf, seePattern, searched}
+use Rattle.field.specs.Field.{_⊕_}
+use Rattle.search.specs.Best.{Best, Weighed, pick, stays, better}
+use Rattle.search.specs.Search.{patterns, bestOver}
 
 -- one rank less is left
 next : (r s : ℕ) → r < s → s - r ≡ suc (s - (r + 1))
@@ -86,22 +82,7 @@ better-count x c = go (stays x c)
     go true = refl
     go false = refl
 
-module _ (m b r : ℕ) (R : ℕ → ℕ) (soft : List ℤ) where
-  seeIf-count : (t : Bool) (v : ℕ) (x : Best) → seeIf m b r R soft t v x .count ≤ x .count + 1
-  seeIf-count true v x = omega (arith, better-count x (weighed m soft (completed m b r R v)))
-  seeIf-count false v x = omega arith
-
-  pub searched-le : (tau : ℕ) → searched m b r R soft tau .count ≤ patterns (lengthOf m - r) tau
-  unfolding searched
-  searched-le tau =
-      let h = search-patterns R (seePattern m b r R soft) (λ v x. seeIf-count (binary m b r R v) v x) (lengthOf m - r) 0 tau (wordOf (lengthOf m) (hard soft)) none in
-      omega arith
-
--- "For m=6, t=3, tau=3 it is 30,914"; the most, for m=6, t=1, is 37,882
-pub patterns-57 : patterns 57 3 ≡ 30914
-unfolding patterns
-patterns-57 = refl
-
+-- the most patterns that a search has, for m = 6, t = 1
 pub patterns-61 : patterns 61 3 ≡ 37882
 unfolding patterns
 patterns-61 = refl

@@ -1,3 +1,4 @@
 pub mod Value
 pub mod Order
 pub mod Distance
+pub mod Claims

@@ -5,7 +5,7 @@ use native.Mathlib.Omega.{arith}
 use denote.Ref.{now}
 use Rattle.codes.specs.Code.{dimensionOf}
 use Rattle.codes.specs.Generator.{systematic}
-use Rattle.codes.proofs.SystematicWord.{parity-full}
+use Rattle.codes.proofs.ShapeLaws.{parity-full}
 use Rattle.frame.specs.Packing.{unpacked}
 use Rattle.codec.specs.Read.{ReadAnswers, says}
 use Rattle.codec.proofs.CodecLaws.{read-refuses, read-checked, read-unsent, read-message-lt, read-other, read-takes}

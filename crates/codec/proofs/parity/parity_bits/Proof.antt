@@ -3,7 +3,7 @@ use mathlib.Core.Path.{ap₂}
 use Prim.Native.Nat.{_-_}
 use native.Mathlib.Omega.{arith}
 use Rattle.codes.specs.Code.{parityOf}
-use Rattle.codes.proofs.SystematicWord.{parity-full}
+use Rattle.codes.proofs.ShapeLaws.{parity-full}
 use borrow.Author.Needs.{needs}
 use Rattle.codec.proofs.parity.parity_bits.Statement.{statement}
 use Rattle.codec.proofs.parity.parity_bits.Tie as tie

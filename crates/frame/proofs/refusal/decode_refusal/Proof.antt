@@ -1,11 +1,10 @@
 -- `frame::refusal::decode_refusal` meets its contract. Assumes nothing.
-use mathlib.Core.Path.{_≡_}
 use mathlib.Core.List.{[], _∷_}
 use native.Mathlib.Omega.{arith}
 use borrow.Author.Needs.{needs}
-use Rattle.frame.specs.Refusal.{unknownCode, tooShort, highOrder, wrongCount, smallBuffer, codeRefusal, decodeRefusal}
-use Rattle.frame.proofs.RefusalLaws.{code-known, code-short}
-use Rattle.frame.proofs.FirstLaws.{first-given, first-passed, first-both}
+use Rattle.frame.specs.Refusal.{highOrder, wrongCount, smallBuffer, decodeRefusal}
+use Rattle.frame.proofs.RefusalLaws.{code-passed}
+use Rattle.frame.proofs.FirstLaws.{code-given, code-clear, first-both}
 use Rattle.frame.proofs.refusal.decode_refusal.Statement.{statement}
 use Rattle.frame.proofs.refusal.decode_refusal.Tie as tie
 
@@ -13,19 +12,19 @@ code-refusal-requires : tie.Need-code-refusal-requires
 code-refusal-requires c κs = search needs
 
 returns : tie.Need-returns
-unfolding decodeRefusal codeRefusal
+unfolding decodeRefusal
 returns c =
     let a = c .before .before .args in
-    first-given (highOrder (a .order) ∷ wrongCount (a .m) (a .s) (a .values) ∷ smallBuffer (a .m) (a .room) ∷ []) (unknownCode (a .m) (a .t) ∷ tooShort (a .m) (a .t) (a .s) ∷ []) tt (c .before .code-refusal .ensures) (c .if1 .taken)
+    code-given (a .m) (a .t) (a .s) (highOrder (a .order) ∷ wrongCount (a .m) (a .s) (a .values) ∷ smallBuffer (a .m) (a .room) ∷ []) (c .before .code-refusal .ensures) (c .if1 .taken)
 
 high-order-requires : tie.Need-high-order-requires
 high-order-requires c κs = search needs
 
 wrong-count-requires : tie.Need-wrong-count-requires
-wrong-count-requires c κs = let a = c .before .before .before .args in let e : codeRefusal (a .m) (a .t) (a .s) ≡ 0 = omega arith in (code-known (a .m) (a .t) (a .s) e, code-short (a .m) (a .t) (a .s) e)
+wrong-count-requires c κs = let a = c .before .before .before .args in code-passed (a .m) (a .t) (a .s) (omega arith)
 
 small-buffer-requires : tie.Need-small-buffer-requires
-small-buffer-requires c κs = let a = c .before .before .before .before .args in let k = code-known (a .m) (a .t) (a .s) (omega arith) in omega arith
+small-buffer-requires c κs = let a = c .before .before .before .before .args in omega (arith, code-passed (a .m) (a .t) (a .s) (omega arith))
 
 first-requires : tie.Need-first-requires
 first-requires c κs = search needs
@@ -34,12 +33,15 @@ first-requires-2 : tie.Need-first-requires-2
 first-requires-2 c κs = search needs
 
 returns-2 : tie.Need-returns-2
-unfolding decodeRefusal codeRefusal
+unfolding decodeRefusal
 returns-2 c =
     let a = c .before .before .before .before .before .before .before .args in
-    first-passed (highOrder (a .order) ∷ wrongCount (a .m) (a .s) (a .values) ∷ smallBuffer (a .m) (a .room) ∷ []) (unknownCode (a .m) (a .t) ∷ tooShort (a .m) (a .t) (a .s) ∷ []) tt (omega arith)
-    (first-both (wrongCount (a .m) (a .s) (a .values) ∷ smallBuffer (a .m) (a .room) ∷ []) (highOrder (a .order) ∷ []) tt (c .before .before .before .before .high-order .ensures)
-    (first-both (smallBuffer (a .m) (a .room) ∷ []) (wrongCount (a .m) (a .s) (a .values) ∷ []) tt (c .before .before .before .wrong-count .ensures) (c .before .before .small-buffer .ensures) (c .before .first .ensures))
+    let high = c .before .before .before .before .high-order .ensures in
+    let count = c .before .before .before .wrong-count .ensures in
+    let small = c .before .before .small-buffer .ensures in
+    code-clear (a .m) (a .t) (a .s) (highOrder (a .order) ∷ wrongCount (a .m) (a .s) (a .values) ∷ smallBuffer (a .m) (a .room) ∷ []) (omega arith)
+    (first-both (wrongCount (a .m) (a .s) (a .values) ∷ smallBuffer (a .m) (a .room) ∷ []) (highOrder (a .order) ∷ []) tt high
+    (first-both (smallBuffer (a .m) (a .room) ∷ []) (wrongCount (a .m) (a .s) (a .values) ∷ []) tt count small (c .before .first .ensures))
     (c .first2 .ensures))
 
 pub decode-refusal-spec : {M : Type 1} → statement M

@@ -2,9 +2,9 @@
 use mathlib.Core.List.{[], _∷_}
 use native.Mathlib.Omega.{arith}
 use borrow.Author.Needs.{needs}
-use Rattle.frame.specs.Refusal.{unknownCode, tooShort, smallBuffer, codeRefusal, readRefusal}
-use Rattle.frame.proofs.RefusalLaws.{code-known}
-use Rattle.frame.proofs.FirstLaws.{first-given, first-passed}
+use Rattle.frame.specs.Refusal.{smallBuffer, readRefusal}
+use Rattle.frame.proofs.RefusalLaws.{code-passed}
+use Rattle.frame.proofs.FirstLaws.{code-given, code-clear}
 use Rattle.frame.proofs.refusal.read_refusal.Statement.{statement}
 use Rattle.frame.proofs.refusal.read_refusal.Tie as tie
 
@@ -12,19 +12,19 @@ code-refusal-requires : tie.Need-code-refusal-requires
 code-refusal-requires c κs = search needs
 
 returns : tie.Need-returns
-unfolding readRefusal codeRefusal
+unfolding readRefusal
 returns c =
     let a = c .before .before .args in
-    first-given (smallBuffer (a .m) (a .room) ∷ []) (unknownCode (a .m) (a .t) ∷ tooShort (a .m) (a .t) (a .s) ∷ []) tt (c .before .code-refusal .ensures) (c .if1 .taken)
+    code-given (a .m) (a .t) (a .s) (smallBuffer (a .m) (a .room) ∷ []) (c .before .code-refusal .ensures) (c .if1 .taken)
 
 small-buffer-requires : tie.Need-small-buffer-requires
-small-buffer-requires c κs = let a = c .before .before .args in let k = code-known (a .m) (a .t) (a .s) (omega arith) in omega arith
+small-buffer-requires c κs = let a = c .before .before .args in omega (arith, code-passed (a .m) (a .t) (a .s) (omega arith))
 
 returns-2 : tie.Need-returns-2
-unfolding readRefusal codeRefusal
+unfolding readRefusal
 returns-2 c =
     let a = c .before .before .before .args in
-    first-passed (smallBuffer (a .m) (a .room) ∷ []) (unknownCode (a .m) (a .t) ∷ tooShort (a .m) (a .t) (a .s) ∷ []) tt (omega arith) (c .small-buffer .ensures)
+    code-clear (a .m) (a .t) (a .s) (smallBuffer (a .m) (a .room) ∷ []) (omega arith) (c .small-buffer .ensures)
 
 pub read-refusal-spec : {M : Type 1} → statement M
 read-refusal-spec =

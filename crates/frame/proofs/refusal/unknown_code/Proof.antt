@@ -18,7 +18,9 @@ returns-4 : tie.Need-returns-4
 returns-4 c = let a = c .before .before .before .before .args in sym (at-1 (a .m) (a .t) 0 (λ k. omega arith))
 
 returns-5 : tie.Need-returns-5
-returns-5 c = let a = c .before .before .before .before .args in sym (past-1 (a .m) (a .t) 0 (record { m-low = omega arith; m-high = omega arith; t-low = omega arith; t-high = omega arith }))
+returns-5 c =
+    let a = c .before .before .before .before .args in
+    sym (past-1 (a .m) (a .t) 0 (record { m-low = omega arith; m-high = omega arith; t-low = omega arith; t-high = omega arith }))
 
 pub unknown-code-spec : {M : Type 1} → statement M
 unknown-code-spec = tie.close (tie.spec returns returns-2 returns-3 returns-4 returns-5)

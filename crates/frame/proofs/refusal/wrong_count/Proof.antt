@@ -2,7 +2,7 @@
 use mathlib.Core.Path.{sym}
 use native.Mathlib.Omega.{arith}
 use borrow.Author.Needs.{needs}
-use Rattle.frame.proofs.ShapeLaws.{dimension-within}
+use Rattle.codes.proofs.ShapeLaws.{parity-full}
 use Rattle.frame.proofs.RefusalSteps.{at-4, past-4}
 use Rattle.frame.proofs.refusal.wrong_count.Statement.{statement}
 use Rattle.frame.proofs.refusal.wrong_count.Tie as tie
@@ -11,7 +11,7 @@ length-of-requires : tie.Need-length-of-requires
 length-of-requires c κs = search needs
 
 sub-sent : tie.Need-sub-sent
-sub-sent c = let a = c .before .args in omega (arith, dimension-within (a .m) (a .t) (c .before .pre .0))
+sub-sent c = let a = c .before .args in omega (arith, parity-full (a .m) (a .t) (c .before .pre .0))
 
 returns : tie.Need-returns
 returns c = let a = c .before .before .args in sym (at-4 (a .m) (a .s) (a .values) 0 (λ e. omega arith))

@@ -2,7 +2,7 @@
 use mathlib.Core.Path.{refl}
 use borrow.Author.Needs.{needs}
 use Rattle.codes.specs.Code.{entryOf, dimensionOf}
-use Rattle.frame.proofs.ShapeLaws.{dimension-small}
+use Rattle.codes.proofs.ShapeLaws.{dimension-small}
 use Rattle.frame.proofs.shape.dimension_of.Statement.{statement}
 use Rattle.frame.proofs.shape.dimension_of.Tie as tie
 

@@ -4,7 +4,8 @@ use native.Mathlib.Omega.{arith}
 use borrow.Author.Needs.{needs}
 use lib.Pow.{pow-pos}
 use Rattle.field.specs.Field.{lengthOf}
-use Rattle.frame.proofs.ShapeLaws.{length-small, one-shifted}
+use Rattle.codes.proofs.ShapeLaws.{length-small}
+use Rattle.frame.proofs.ShapeLaws.{one-shifted}
 use Rattle.frame.proofs.shape.length_of.Statement.{statement}
 use Rattle.frame.proofs.shape.length_of.Tie as tie
 

@@ -1,0 +1,2 @@
+pub mod DecodeLaws
+pub mod DecodeOneAnswer

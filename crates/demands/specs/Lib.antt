@@ -1,0 +1,3 @@
+pub mod OneAnswer
+pub mod BringsBack
+pub mod Settled

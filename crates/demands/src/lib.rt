@@ -1,0 +1,1 @@
+// What is claimed of the calls: specs/ states each claim, proofs/ cites what meets it; no code.

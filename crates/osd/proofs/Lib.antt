@@ -1,0 +1,3 @@
+pub mod WeighTurn
+pub mod PatternTurn
+pub mod PatternCount

@@ -1,0 +1,6 @@
+pub mod ShapeLaws
+pub mod StoreLaws
+pub mod RankLaws
+pub mod PointLaws
+pub mod TableLaws
+pub mod PreparedWord
