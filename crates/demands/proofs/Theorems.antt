@@ -1,12 +1,21 @@
 -- Every claim by its name, with what proves it: the checked table of theorems. Assumes nothing.
+use mathlib.Core.List.{List}
+use Prim.Native.Nat.{ℕ}
+use lib.IntN.{ℤ}
 use Rattle.field.specs.Laws.{FieldsAreLawful}
 use Rattle.field.proofs.FieldLaws.{laws}
 use Rattle.codes.specs.Claims.{GeneratorsAreRight, OneWordForEachMessage, CodewordsAreApart, PlacesFixAWord, CellsAreThePapers, CellsAreShort}
 use Rattle.codes.proofs.ClaimsShown as codes
+use Rattle.soft.specs.Claims.{SortedByRank, FirstAreReliable}
+use Rattle.soft.proofs.OrderLaws as order
+use Rattle.search.specs.Claims.{PatternsAreBinomials, EveryCandidateHasOnePattern, BinaryPatternsAreCandidates, BestIsNearest, CandidatesAreCounted, NothingIsMissed}
+use Rattle.search.proofs.ClaimsShown as search-shown
+use Rattle.frame.proofs.PackedBits.{packed-bit}
 use Rattle.codec.proofs.CodecOneAnswer as codec
 use Rattle.codec.proofs.RoundTrip as trip
 use Rattle.decode.proofs.DecodeOneAnswer as decode
 use Rattle.demands.specs.OneAnswer.{EncodeHasOneAnswer, ReadHasOneAnswer, DecodeHasOneAnswer}
+use Rattle.demands.specs.Packed.{BitsArePacked}
 use Rattle.demands.specs.BringsBack.{ReadBringsBack, EncodeWritesAgain}
 use Rattle.demands.specs.Settled.{settled, Each}
 use Rattle.demands.proofs.SettledShown as shown
@@ -33,7 +42,37 @@ cells-are-the-papers = codes.cells-are-the-papers
 pub cells-are-short : CellsAreShort
 cells-are-short = codes.cells-are-short
 
+-- the order of positions
+pub sorted-by-rank : SortedByRank
+sorted-by-rank = order.rank-at
+
+pub first-are-reliable : FirstAreReliable
+first-are-reliable = order.reliable-says
+
+-- the search
+pub patterns-are-binomials : PatternsAreBinomials
+patterns-are-binomials = search-shown.patterns-are-binomials
+
+module _ (m b r tau : ℕ) (soft : List ℤ) (R : ℕ → ℕ) where
+  pub every-candidate-has-one-pattern : EveryCandidateHasOnePattern m b r tau soft R
+  every-candidate-has-one-pattern = search-shown.every-candidate-has-one-pattern m b r tau soft R
+
+  pub binary-patterns-are-candidates : BinaryPatternsAreCandidates m b r tau soft R
+  binary-patterns-are-candidates = search-shown.binary-patterns-are-candidates m b r tau soft R
+
+  pub best-is-nearest : BestIsNearest m b r tau soft R
+  best-is-nearest = search-shown.best-is-nearest m b r tau soft R
+
+  pub candidates-are-counted : CandidatesAreCounted m b r tau soft R
+  candidates-are-counted = search-shown.candidates-are-counted m b r tau soft R
+
+  pub nothing-is-missed : NothingIsMissed m b r tau soft R
+  nothing-is-missed = search-shown.nothing-is-missed m b r tau soft R
+
 -- the calls
+pub bits-are-packed : BitsArePacked
+bits-are-packed = packed-bit
+
 pub encode-has-one-answer : EncodeHasOneAnswer
 encode-has-one-answer = codec.encode-one-answer
 

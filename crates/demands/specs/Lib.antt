@@ -1,3 +1,4 @@
+pub mod Packed
 pub mod OneAnswer
 pub mod BringsBack
 pub mod Settled

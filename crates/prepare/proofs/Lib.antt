@@ -1,4 +1,3 @@
-pub mod ShapeLaws
 pub mod StoreLaws
 pub mod RankLaws
 pub mod PointLaws

@@ -8,6 +8,7 @@ use lib.ListN.{length, getD}
 use Rattle.field.specs.Field.{alphaTo, lengthOf}
 use Rattle.field.specs.Laws.{Laws}
 use Rattle.field.proofs.FieldLaws.{laws}
+use Rattle.codes.proofs.ShapeLaws.{length-small, roots-fit}
 use Rattle.codes.specs.Word.{bitOf, wordOf}
 use Rattle.codes.specs.Code.{Known}
 use Rattle.codes.proofs.WordLaws.{bit-lt, bit-word, word-lt}
@@ -24,7 +25,6 @@ use Rattle.prepare.specs.declared.Prepared.{Prepared}
 use Rattle.prepare.specs.PlanOf.{planOf}
 use Rattle.prepare.specs.Inner.ByRank.{Powers, Gathered, ranked}
 use Rattle.prepare.specs.Inner.Table.{Rows, RowSums, rowSum}
-use Rattle.prepare.proofs.ShapeLaws.{length-bounds, roots-fit}
 use Rattle.prepare.proofs.RankLaws.{word-above, word-cong}
 use Rattle.prepare.proofs.PointLaws.{cell-is, symbol-is}
 
@@ -57,7 +57,7 @@ module _ (m t : ℕ) (known : Known m t) (n : ℕ) (long : n ≡ lengthOf m) (so
   F = laws m (known .m-low) (known .m-high)
 
   small : L ≤ 63
-  small = length-bounds m (known .m-low) (known .m-high) .1
+  small = length-small m (known .m-low) (known .m-high)
 
   fit : 2 * t ≤ L
   fit = roots-fit m t known

@@ -29,20 +29,12 @@ pub struct Prepared {
     pub symbols: [u8; 378],
 }
 
-// n = 2^m - 1
-fn length_of(m: u8) -> usize
-    requires { ⌜ (4 ≤ m) × (m ≤ 6) ⌝ }
-    ensures { λ r. ⌜ r ≡ lengthOf m ⌝ }
-{
-    (1usize << m) - 1
-}
-
 // The size of the reliable set: the first n-2t ranks.
 fn reliable_size(m: u8, t: u8) -> usize
     requires { ⌜ Known m t ⌝ }
     ensures { λ r. ⌜ r ≡ lengthOf m - 2 * t ⌝ }
 {
-    length_of(m) - (2 * t) as usize
+    frame::length_of(m as u16) - (2 * t) as usize
 }
 
 // The prepared word of the values received.
@@ -50,7 +42,7 @@ pub fn prepare(m: u8, t: u8, soft: &[i8]) -> Prepared
     requires { ⌜ Known m t × (length (now soft) ≤ lengthOf m) ⌝ }
     ensures { λ r. ⌜ Prepares m 1 (2 * t) (now (soft .entry)) (planOf r) × Fits (planOf r) ⌝ }
 {
-    let n = length_of(m);
+    let n = frame::length_of(m as u16);
     let size = reliable_size(m, t);
     let rows = n - size;
     let received = ranks::values::receive(soft);
@@ -59,6 +51,7 @@ pub fn prepare(m: u8, t: u8, soft: &[i8]) -> Prepared
     let order = ranks::order::order_of(reliability, n);
     let weight = by_rank::values_by_rank(reliability, order, n);
     let bits = by_rank::bits_by_rank(hards, order, n);
+    let sides = bits >> size;
     let powers = by_rank::powers(m, n);
     let points = by_rank::values_by_rank(powers, order, n);
     let symbols = table::symbol_table(m, points, size, rows);
@@ -67,7 +60,7 @@ pub fn prepare(m: u8, t: u8, soft: &[i8]) -> Prepared
         size,
         rows,
         hards,
-        sides: bits >> size,
+        sides,
         base,
         order,
         weight,

@@ -4,10 +4,10 @@ use Prim.Native.Nat.{_-_, _/_, _^_, _<_}
 use native.Mathlib.Omega.{arith}
 use borrow.Author.Needs.{needs}
 use Rattle.field.proofs.FieldLaws.{laws}
+use Rattle.codes.proofs.ShapeLaws.{length-small, roots-fit}
 use Rattle.codes.proofs.RootLaws.{pw-lt}
 use Rattle.ranks.specs.Places.{placeIn}
 use Rattle.prepare.specs.declared.Prepared.{Prepared}
-use Rattle.prepare.proofs.ShapeLaws.{length-bounds, roots-fit}
 use Rattle.prepare.proofs.PreparedWord.{word-prepared}
 use Rattle.prepare.proofs.prepare.Statement.{statement}
 use Rattle.prepare.proofs.prepare.Tie as tie
@@ -22,16 +22,19 @@ sub-rows : tie.Need-sub-rows
 sub-rows c = search needs
 
 receive-requires : tie.Need-receive-requires
-receive-requires c κs = omega (arith, length-bounds (c .before .before .args .m) (omega arith) (omega arith))
+receive-requires c κs = omega (arith, length-small (c .before .before .args .m) (omega arith) (omega arith))
 
 order-of-requires : tie.Need-order-of-requires
-order-of-requires c κs = omega (arith, length-bounds (c .before .before .before .before .args .m) (omega arith) (omega arith))
+order-of-requires c κs = omega (arith, length-small (c .before .before .before .before .args .m) (omega arith) (omega arith))
 
 values-by-rank-requires : tie.Need-values-by-rank-requires
 values-by-rank-requires c κs = (order-of-requires (c .before) κs, λ i l. c .order-of .ensures .small i)
 
 bits-by-rank-requires : tie.Need-bits-by-rank-requires
 bits-by-rank-requires c κs = values-by-rank-requires (c .before) κs
+
+shr-sides : tie.Need-shr-sides
+shr-sides c = omega (arith, order-of-requires (c .before .before .before) tt, c .before .before .before .before .before .reliable-size .ensures)
 
 powers-requires : tie.Need-powers-requires
 powers-requires c κs = (omega arith, omega arith, order-of-requires (c .before .before .before) κs)
@@ -46,8 +49,8 @@ symbol-table-requires c κs =
     let n = c .before .before .before .before .before .before .before .before .length-of in
     let size = c .before .before .before .before .before .before .before .reliable-size in
     let order = c .before .before .before .before .order-of in
-    let bounds = length-bounds m (known .m-low) (known .m-high) in
-    let e = n .ensures in
+    let bounds = length-small m (known .m-low) (known .m-high) in
+    let e = n .ensures .0 in
     let f = size .ensures in
     record {
       m-low = known .m-low;
@@ -67,9 +70,6 @@ symbol-table-requires c κs =
 row-sums-requires : tie.Need-row-sums-requires
 row-sums-requires c κs = let h = symbol-table-requires (c .before) κs in (omega arith, omega arith)
 
-shr-t18 : tie.Need-shr-t18
-shr-t18 c = let h = symbol-table-requires (c .before .before) tt in omega arith
-
 returns : tie.Need-returns
 returns c =
     let start = c .before .before .before .before .before .before .before .before .before .before .before in
@@ -85,7 +85,7 @@ returns c =
     let m = start .args .m in
     let t = start .args .t in
     let known = start .pre .0 in
-    let e = n .ensures in
+    let e = n .ensures .0 in
     let f = size .ensures in
     let p : Prepared = record {
       size = size .result;
@@ -123,9 +123,9 @@ prepare-spec =
     order-of-requires
     values-by-rank-requires
     bits-by-rank-requires
+    shr-sides
     powers-requires
     values-by-rank-requires-2
     symbol-table-requires
     row-sums-requires
-    shr-t18
     returns)

@@ -1,7 +1,7 @@
 -- `prepare::reliable_size` meets its contract: there are more positions than roots of any code. Assumes nothing.
 use native.Mathlib.Omega.{arith}
 use borrow.Author.Needs.{needs}
-use Rattle.prepare.proofs.ShapeLaws.{length-bounds}
+use Rattle.codes.proofs.ShapeLaws.{roots-fit}
 use Rattle.prepare.proofs.reliable_size.Statement.{statement}
 use Rattle.prepare.proofs.reliable_size.Tie as tie
 
@@ -15,7 +15,7 @@ cast-result : tie.Need-cast-result
 cast-result c = search needs
 
 sub-result : tie.Need-sub-result
-sub-result c = omega (arith, length-bounds (c .before .args .m) (omega arith) (omega arith))
+sub-result c = omega (arith, c .length-of .ensures .0, roots-fit _ _ (c .before .pre))
 
 returns : tie.Need-returns
 returns c = search needs
