@@ -1,11 +1,11 @@
--- `try_settled::changed` is safe and ends: the count is at most the number of bytes passed. Assumes nothing.
+-- `try_settled::text::changed` is safe and ends: the count is at most the number of bytes passed. Assumes nothing.
 use mathlib.Core.Logic.{⊎-elim}
 use Prim.Native.Nat.{_≤_, _-_}
 use native.Mathlib.Omega.{arith}
 use borrow.Author.Needs.{needs}
 use lib.ListN.{length}
-use Rattle.try_settled.proofs.changed.Statement.{statement}
-use Rattle.try_settled.proofs.changed.Tie as tie
+use Rattle.try_settled.proofs.text.changed.Statement.{statement}
+use Rattle.try_settled.proofs.text.changed.Tie as tie
 
 abbrev Inv-loop : tie.InvT-loop
 Inv-loop bytes count₀ i₀ count i = (i ≤ length bytes) × (count ≤ i)

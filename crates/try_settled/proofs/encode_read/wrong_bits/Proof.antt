@@ -1,8 +1,8 @@
--- `try_settled::wrong_bits` is safe and ends: the measure is the number of positions left. Assumes nothing.
+-- `try_settled::encode_read::wrong_bits` is safe and ends: the measure is the number of positions left. Assumes nothing.
 use Prim.Native.Nat.{_≤_, _-_}
 use borrow.Author.Needs.{needs}
-use Rattle.try_settled.proofs.wrong_bits.Statement.{statement}
-use Rattle.try_settled.proofs.wrong_bits.Tie as tie
+use Rattle.try_settled.proofs.encode_read.wrong_bits.Statement.{statement}
+use Rattle.try_settled.proofs.encode_read.wrong_bits.Tie as tie
 
 abbrev Inv-loop : tie.InvT-loop
 Inv-loop place₀ place = place ≤ 15

@@ -1,9 +1,9 @@
--- `try_settled::put_hex_bytes` is safe and ends: the measure is the number of bytes left. Assumes nothing.
+-- `try_settled::text::put_hex_bytes` is safe and ends: the measure is the number of bytes left. Assumes nothing.
 use Prim.Native.Nat.{_≤_, _-_}
 use borrow.Author.Needs.{needs}
 use lib.ListN.{length}
-use Rattle.try_settled.proofs.put_hex_bytes.Statement.{statement}
-use Rattle.try_settled.proofs.put_hex_bytes.Tie as tie
+use Rattle.try_settled.proofs.text.put_hex_bytes.Statement.{statement}
+use Rattle.try_settled.proofs.text.put_hex_bytes.Tie as tie
 
 abbrev Inv-loop : tie.InvT-loop
 Inv-loop bytes i₀ i = i ≤ length bytes

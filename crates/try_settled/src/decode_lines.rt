@@ -1,0 +1,216 @@
+// A decode call and its line.
+ghost use mathlib.Core.Bool.{true, false};
+ghost use mathlib.Core.Path.{_≡_};
+ghost use Prim.Native.Nat.{_≤_, _<_};
+ghost use lib.ListN.{length};
+use crate::encode_read::read_case;
+use crate::encode_read::unchanged_thousands;
+use crate::text::put;
+use crate::text::put_code;
+use crate::text::put_hex_bytes;
+use crate::text::put_long_bytes;
+use crate::text::put_text;
+
+// A received word in short. Bit p of `ones` is the hard decision at position p. The reliability there is `small` where bit p of `weak` is
+// 1, and elsewhere `size`, to which an uneven word adds what is left of 29 times p by 97.
+pub struct Received {
+    pub ones: u64,
+    pub size: u8,
+    pub uneven: bool,
+    pub weak: u64,
+    pub small: u8,
+}
+
+// Of one reliability.
+pub fn even(ones: u64, size: u8) -> Received
+    ensures { λ r. ⌜ r ≡ record { ones = ones; size = size; uneven = false; weak = 0; small = 0 } ⌝ }
+{
+    Received {
+        ones,
+        size,
+        uneven: false,
+        weak: 0,
+        small: 0,
+    }
+}
+
+// Of two reliabilities.
+pub fn weaker(ones: u64, size: u8, weak: u64, small: u8) -> Received
+    ensures { λ r. ⌜ r ≡ record { ones = ones; size = size; uneven = false; weak = weak; small = small } ⌝ }
+{
+    Received {
+        ones,
+        size,
+        uneven: false,
+        weak,
+        small,
+    }
+}
+
+// Of as many reliabilities as positions, from 20 to 116 and in no order.
+pub fn uneven(ones: u64) -> Received
+    ensures { λ r. ⌜ r ≡ record { ones = ones; size = 20; uneven = true; weak = 0; small = 0 } ⌝ }
+{
+    Received {
+        ones,
+        size: 20,
+        uneven: true,
+        weak: 0,
+        small: 0,
+    }
+}
+
+fn size_at(received: Received, p: usize) -> u8
+    requires { ⌜ p < 64 ⌝ }
+{
+    if (received.weak >> p) % 2 == 1 {
+        return received.small;
+    }
+    if !received.uneven {
+        return received.size;
+    }
+    ((received.size as usize + p * 29 % 97) % 256) as u8
+}
+
+fn value_of(bit: u64, size: u8) -> i8 {
+    if bit == 0 {
+        (size % 128) as i8
+    } else if size == 128 {
+        -128
+    } else {
+        -((size % 128) as i8)
+    }
+}
+
+fn values_of(received: Received) -> [i8; 64]
+    ensures { λ r. ⌜ 64 ≡ length r ⌝ }
+{
+    let mut values = [0i8; 64];
+    let mut p = 0;
+    while p < 64 {
+        values[p] = value_of((received.ones >> p) % 2, size_at(received, p));
+        p += 1;
+    }
+    values
+}
+
+// The value at position p, with a space before all but the first.
+fn put_value(bit: u64, size: u8, p: usize) {
+    if 0 < p {
+        put_text(b" ");
+    }
+    if bit == 1 {
+        put_text(b"-");
+    }
+    put(b"", size as u64);
+}
+
+fn put_values(received: Received, count: usize)
+    requires { ⌜ count ≤ 64 ⌝ }
+{
+    if count == 0 {
+        put_text(b"none");
+    }
+    let mut p = 0;
+    while p < count {
+        put_value((received.ones >> p) % 2, size_at(received, p), p);
+        p += 1;
+    }
+}
+
+// A decode call's line, up to its values.
+fn put_decode(m: u16, t: u16, s: u16, order: u16) {
+    put_text(b"decode");
+    put_code(m, t, s);
+    put(b" order=", order as u64);
+    put_text(b" values=");
+}
+
+// What was answered, up to the buffer.
+fn put_decoding(decoding: decode::Decoding) {
+    put(b": answer ", decoding.refusal as u64);
+    put(b", distance ", decoding.distance as u64);
+    put(b", flips ", decoding.flips as u64);
+    put(b", candidates ", decoding.candidates as u64);
+    put_text(b", buffer ");
+}
+
+// The call, the answer's part of its line, and the buffer.
+fn decode_into(m: u16, t: u16, s: u16, order: u16, values: &[i8], buf: &mut [u8]) {
+    put_decoding(decode::decode(m, t, s, order, values, buf));
+    put_hex_bytes(buf);
+    put_text(b"\n");
+}
+
+// A decode call with the first `count` values of a received word, and a buffer of `room` bytes.
+pub fn decode_case(
+    m: u16,
+    t: u16,
+    s: u16,
+    order: u16,
+    received: Received,
+    count: usize,
+    room: usize,
+)
+    requires { ⌜ (count ≤ 64) × (room ≤ 11) ⌝ }
+{
+    put_decode(m, t, s, order);
+    put_values(received, count);
+    let values = values_of(received);
+    let mut space = [255u8; 11];
+    decode_into(m, t, s, order, &values[0..count], &mut space[0..room]);
+}
+
+fn decode_read_into(m: u16, t: u16, s: u16, order: u16, values: &[i8], buf: &mut [u8]) {
+    decode_into(m, t, s, order, values, buf);
+    read_case(m, t, s, buf);
+}
+
+// The same, and then reads what stands in the buffer.
+pub fn decode_read_case(
+    m: u16,
+    t: u16,
+    s: u16,
+    order: u16,
+    received: Received,
+    count: usize,
+    room: usize,
+)
+    requires { ⌜ (count ≤ 64) × (room ≤ 11) ⌝ }
+{
+    put_decode(m, t, s, order);
+    put_values(received, count);
+    let values = values_of(received);
+    let mut space = [255u8; 11];
+    decode_read_into(m, t, s, order, &values[0..count], &mut space[0..room]);
+}
+
+// Unshortened, at each order that there is.
+pub fn decode_orders(m: u16, t: u16, received: Received, count: usize, room: usize)
+    requires { ⌜ (count ≤ 64) × (room ≤ 11) ⌝ }
+{
+    decode_case(m, t, 0, 0, received, count, room);
+    decode_case(m, t, 0, 1, received, count, room);
+    decode_case(m, t, 0, 2, received, count, room);
+    decode_case(m, t, 0, 3, received, count, room);
+}
+
+fn thousands_of_tens() -> [i8; 4096]
+    ensures { λ r. ⌜ 4096 ≡ length r ⌝ }
+{
+    [10; 4096]
+}
+
+// Up to thousands of values, each of them 10, and a buffer of thousands of bytes.
+pub fn decode_long_case(m: u16, t: u16, s: u16, order: u16, count: usize)
+    requires { ⌜ count ≤ 4096 ⌝ }
+{
+    put_decode(m, t, s, order);
+    put(b"", count as u64);
+    put_text(b" times 10");
+    let values = thousands_of_tens();
+    let mut space = unchanged_thousands();
+    put_decoding(decode::decode(m, t, s, order, &values[0..count], &mut space));
+    put_long_bytes(&space);
+    put_text(b"\n");
+}
