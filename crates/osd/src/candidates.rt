@@ -15,7 +15,7 @@ fn weigh(p: Prepared, ranks: u64) -> Candidate
     requires { ⌜ Fits (planOf p) × (ranks < 2 ^ (p .size + p .rows)) ⌝ }
     ensures { λ r. ⌜ asWeighed r ≡ rankWeighed (planOf p) ranks ⌝ }
 {
-    let mut word = p.hards;
+    let mut word = frame::word_in(&p.hards, 8);
     let mut distance: u16 = 0;
     let mut flips: u8 = 0;
     let mut g = ranks;
@@ -41,7 +41,7 @@ pub fn pattern(p: Prepared, flips: u64, best: Best) -> Best
     requires { ⌜ Fits (planOf p) × (flips < 2 ^ p .size) × (best .count < 100000) ⌝ }
     ensures { λ r. ⌜ asBest r ≡ tried (planOf p) flips (asBest best) ⌝ }
 {
-    let rows = p.rows;
+    let rows = p.rows as usize;
     let mut bits: u64 = 0;
     let mut q = 0;
     'outside: while q < rows {
@@ -62,6 +62,6 @@ pub fn pattern(p: Prepared, flips: u64, best: Best) -> Best
         return best;
     }
     let size = p.size;
-    let ranks = flips ^ ((bits ^ p.sides) << size);
+    let ranks = flips ^ ((bits ^ p.sides as u64) << size);
     best.with(weigh(p, ranks))
 }

@@ -23,7 +23,7 @@ fn keep(p: Prepared, rank: Rank, may: u8, flips: u64, best: Best) -> Best
         return pattern(p, flips, best);
     }
     let r = rank.0;
-    if r as usize == p.size {
+    if r == p.size {
         return pattern(p, flips, best);
     }
     let kept = keep(p, Rank(r + 1), may, flips, best);

@@ -15,6 +15,7 @@ use Rattle.codes.proofs.WordLaws.{bit-lt, bit-word, word-lt}
 use Rattle.soft.specs.Value.{hard}
 use Rattle.soft.specs.Order.{Sorted}
 use Rattle.search.specs.Plan.{Fits, Prepares}
+use Rattle.frame.specs.Packing.{unpacked}
 use Rattle.search.proofs.BestIsNearest.{hard-lt}
 use Rattle.ranks.specs.Places.{placeIn}
 use Rattle.ranks.specs.Receives.{Receives}
@@ -32,7 +33,7 @@ use Rattle.prepare.proofs.PointLaws.{cell-is, symbol-is}
 pub record Parts (m t n : ℕ) (r : Received) (alphas elements : List ℕ) (word : ℕ) (p : Prepared) : Type 0 where
   pub size : p .size ≡ lengthOf m - 2 * t
   pub rows : p .rows ≡ 2 * t
-  pub hards : p .hards ≡ r .hards
+  pub hards : unpacked (p .hards) 8 ≡ r .hards
   pub order : Ordered (r .reliability) n (p .order)
   pub powers : Powers m n alphas
   pub points : Gathered n alphas (p .order) elements
@@ -68,13 +69,13 @@ module _ (m t : ℕ) (known : Known m t) (n : ℕ) (long : n ≡ lengthOf m) (so
   sorted : Sorted m soft R
   sorted = sorted-order m soft r (p .order) got L refl small (made .order)
 
-  hards : p .hards ≡ wordOf L (hard soft)
+  hards : unpacked (p .hards) 8 ≡ wordOf L (hard soft)
   hards = made .hards ∙ got .hards L short
 
   hard-at : (i : ℕ) → i < L → bitOf (r .hards) (R i) ≡ hard soft (R i)
   hard-at i l = ap (λ (u : ℕ). bitOf u (R i)) (got .hards L short) ∙ bit-word L (hard soft) (λ q _. hard-lt soft q) (R i) (made .order .inside i l)
 
-  bit-at : (i : ℕ) → i < L → bitOf word i ≡ bitOf (p .hards) (R i)
+  bit-at : (i : ℕ) → i < L → bitOf word i ≡ bitOf (unpacked (p .hards) 8) (R i)
   unfolding ranked
   bit-at i l =
       ap (λ (u : ℕ). bitOf u i) (made .bits)
@@ -108,7 +109,7 @@ module _ (m t : ℕ) (known : Known m t) (n : ℕ) (long : n ≡ lengthOf m) (so
     sides = sides;
     base = λ q l.
         made .base q (omega (arith, made .rows)) ∙ ap (λ (u : ℕ). rowSum (p .symbols) word u q) (made .size)
-        ∙ symbol-is m F (2 * t) R (sorted .order) fit elements point-at (p .symbols) word (p .hards) q l (table .cells q l) (λ j lj. bit-at j (omega arith));
+        ∙ symbol-is m F (2 * t) R (sorted .order) fit elements point-at (p .symbols) word (unpacked (p .hards) 8) q l (table .cells q l) (λ j lj. bit-at j (omega arith));
     weight = λ i l. made .weight i l ∙ got .reliabilities (R i) (made .order .small i);
     column = λ q j hq hj. table .cells q hq j hj ∙ cell-is m F (2 * t) R (sorted .order) fit elements point-at q j hq hj;
   }

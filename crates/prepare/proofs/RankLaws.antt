@@ -1,10 +1,14 @@
 -- Words whose bits are taken by rank: from the last to the first, and those above a place. Assumes nothing.
-use mathlib.Core.Path.{_≡_, refl, sym, ap, ap₂, _∙_}
+use mathlib.Core.Path.{_≡_, refl, sym, ap, ap₂, subst, _∙_}
+use mathlib.Core.List.{List}
 use Prim.Native.Nat.{ℕ, zero, suc, _+_, _-_, _*_, _/_, _^_, _<_, _≤_}
 use native.Mathlib.Nat.{pow-suc, div-one, div-div-eq-div-mul, lt-of-lt-of-le, pow-le-pow-right}
 use native.Mathlib.Omega.{arith}
-use Rattle.codes.specs.Word.{wordOf}
-use Rattle.codes.proofs.WordLaws.{word-lt}
+use Rattle.codes.specs.Word.{bitOf, wordOf}
+use Rattle.codes.proofs.WordLaws.{bit-lt, word-lt}
+use Rattle.ranks.specs.Places.{placeIn}
+use Rattle.ranks.specs.declared.Position.{Position}
+use Rattle.prepare.specs.Inner.ByRank.{ranked}
 
 pub word-cong : (k : ℕ) (c d : ℕ → ℕ) → ((p : ℕ) → p < k → c p ≡ d p) → wordOf k c ≡ wordOf k d
 unfolding wordOf
@@ -46,3 +50,15 @@ word-above (suc s) k c h =
     ∙ ap (λ (u : ℕ). u / 2 ^ s) (let e : (w * 2 + c 0) / 2 ≡ w = omega (arith, h 0 (omega arith)) in e)
     ∙ word-above s k (λ p. c (suc p)) (λ p l. h (suc p) (omega arith))
     ∙ word-cong k (λ q. c (suc (s + q))) (λ q. c (suc s + q)) (λ q _. ap c (omega arith))
+
+-- the bits of the places outside are few
+pub sides-lt : (n s w : ℕ) (order : List Position) → s ≤ n → n ≤ s + 6 → ranked n w order / 2 ^ s < 64
+unfolding ranked
+sides-lt n s w order l h =
+    let e : n ≡ s + (n - s) = omega arith in
+    subst (λ (x : ℕ). x < 64)
+    (sym (ap (λ (u : ℕ). wordOf u bit / 2 ^ s) e ∙ word-above s (n - s) bit (λ i _. bit-lt w (placeIn order i))))
+    (lt-of-lt-of-le (word-lt (n - s) (λ q. bit (s + q)) (λ q _. bit-lt w (placeIn order (s + q)))) (pow-le-pow-right {n = 2} (omega arith) {i = n - s} {j = 6} (omega arith)))
+  where
+    bit : ℕ → ℕ
+    bit i = bitOf w (placeIn order i)

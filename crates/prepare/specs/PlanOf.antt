@@ -2,6 +2,7 @@
 use Prim.Native.Nat.{_+_, _*_}
 use lib.ListN.{getD}
 use Rattle.search.specs.Plan.{Plan}
+use Rattle.frame.specs.Packing.{unpacked}
 use Rattle.ranks.specs.Places.{placeIn}
 use Rattle.prepare.specs.declared.Prepared.{Prepared}
 
@@ -9,7 +10,7 @@ abbrev pub planOf : Prepared → Plan
 planOf p = record {
   size = p .size;
   rows = p .rows;
-  hards = p .hards;
+  hards = unpacked (p .hards) 8;
   sides = p .sides;
   base = λ q. getD (p .base) q 0;
   place = placeIn (p .order);

@@ -8,18 +8,20 @@ ghost use Prim.Native.Nat.{_-_, _*_, _≤_};
 ghost use lib.ListN.{length};
 ghost use Rattle.field.specs.Field.{lengthOf};
 ghost use Rattle.codes.specs.Code.{Known};
+ghost use Rattle.frame.specs.Packing.{unpacked};
 ghost use Rattle.search.specs.Plan.{Fits, Prepares};
 ghost use Rattle.prepare.specs.PlanOf.{planOf};
 use ranks::Position;
 
-// What is by rank has the reliable set first, then the places outside.
+// What is by rank has the reliable set first, then the places outside. Bytes alone, since a struct that wants to be aligned is
+// copied at each call that it is passed on to.
 pub struct Prepared {
     // how many ranks are reliable, and how many are outside
-    pub size: usize,
-    pub rows: usize,
-    // the hard decisions by position, and those outside by row
-    pub hards: u64,
-    pub sides: u64,
+    pub size: u8,
+    pub rows: u8,
+    // the hard decisions by position, lowest byte first, and those outside by row
+    pub hards: [u8; 8],
+    pub sides: u8,
     // the symbols of the unflipped pattern, by row
     pub base: [u8; 6],
     // the position and the reliability of each rank
@@ -35,6 +37,15 @@ fn reliable_size(m: u8, t: u8) -> usize
     ensures { λ r. ⌜ r ≡ lengthOf m - 2 * t ⌝ }
 {
     frame::length_of(m as u16) - (2 * t) as usize
+}
+
+// A word's bytes, lowest first.
+fn bytes_of(word: u64) -> [u8; 8]
+    ensures { λ r. ⌜ unpacked r 8 ≡ word ⌝ }
+{
+    let mut bytes = [0u8; 8];
+    frame::put_word(word, 8, &mut bytes);
+    bytes
 }
 
 // The prepared word of the values received.
@@ -56,11 +67,12 @@ pub fn prepare(m: u8, t: u8, soft: &[i8]) -> Prepared
     let points = by_rank::values_by_rank(powers, order, n);
     let symbols = table::symbol_table(m, points, size, rows);
     let base = unflipped::row_sums(symbols, bits, size, rows);
+    let bytes = bytes_of(hards);
     Prepared {
-        size,
-        rows,
-        hards,
-        sides,
+        size: size as u8,
+        rows: rows as u8,
+        hards: bytes,
+        sides: sides as u8,
         base,
         order,
         weight,

@@ -1,6 +1,6 @@
 -- `prepare::prepare` meets its contract: what the inner functions ensure are the parts of a prepared word. Assumes nothing.
-use mathlib.Core.Path.{refl}
-use Prim.Native.Nat.{_-_, _/_, _^_, _<_}
+use mathlib.Core.Path.{refl, ap}
+use Prim.Native.Nat.{ℕ, _-_, _/_, _^_, _<_}
 use native.Mathlib.Omega.{arith}
 use borrow.Author.Needs.{needs}
 use Rattle.field.proofs.FieldLaws.{laws}
@@ -8,6 +8,7 @@ use Rattle.codes.proofs.ShapeLaws.{length-small, roots-fit}
 use Rattle.codes.proofs.RootLaws.{pw-lt}
 use Rattle.ranks.specs.Places.{placeIn}
 use Rattle.prepare.specs.declared.Prepared.{Prepared}
+use Rattle.prepare.proofs.RankLaws.{sides-lt}
 use Rattle.prepare.proofs.PreparedWord.{word-prepared}
 use Rattle.prepare.proofs.prepare.Statement.{statement}
 use Rattle.prepare.proofs.prepare.Tie as tie
@@ -70,18 +71,35 @@ symbol-table-requires c κs =
 row-sums-requires : tie.Need-row-sums-requires
 row-sums-requires c κs = let h = symbol-table-requires (c .before) κs in (omega arith, omega arith)
 
+bytes-of-requires : tie.Need-bytes-of-requires
+bytes-of-requires c κs = search needs
+
+cast-t21 : tie.Need-cast-t21
+cast-t21 c = let h = symbol-table-requires (c .before .before .before) tt in record { fits = omega arith }
+
+cast-t22 : tie.Need-cast-t22
+cast-t22 c = let h = symbol-table-requires (c .before .before .before) tt in record { fits = omega arith }
+
+cast-t23 : tie.Need-cast-t23
+cast-t23 c =
+    let h = symbol-table-requires (c .before .before .before) tt in
+    let n = c .before .before .before .before .before .before .before .before .before .before .before .length-of .result in
+    let size = c .before .before .before .before .before .before .before .before .before .before .reliable-size .result in
+    let few = sides-lt n size (c .before .before .before .before .before .before .before .before .before .receive .result .hards) (c .before .before .before .before .before .before .before .order-of .result) (sub-rows (c .before .before .before .before .before .before .before .before .before .before)) (omega (arith, h .few)) in
+    record { fits = omega (arith, few, ap (λ (u : ℕ). u / 2 ^ size) (c .before .before .before .before .before .bits-by-rank .ensures)) }
+
 returns : tie.Need-returns
 returns c =
-    let start = c .before .before .before .before .before .before .before .before .before .before .before in
-    let n = c .before .before .before .before .before .before .before .before .before .before .length-of in
-    let size = c .before .before .before .before .before .before .before .before .before .reliable-size in
-    let received = c .before .before .before .before .before .before .before .before .receive in
-    let order = c .before .before .before .before .before .before .order-of in
-    let weight = c .before .before .before .before .before .values-by-rank in
-    let bits = c .before .before .before .before .bits-by-rank in
-    let powers = c .before .before .before .powers in
-    let points = c .before .before .values-by-rank2 in
-    let symbols = c .before .symbol-table in
+    let start = c .before .before .before .before .before .before .before .before .before .before .before .before in
+    let n = c .before .before .before .before .before .before .before .before .before .before .before .length-of in
+    let size = c .before .before .before .before .before .before .before .before .before .before .reliable-size in
+    let received = c .before .before .before .before .before .before .before .before .before .receive in
+    let order = c .before .before .before .before .before .before .before .order-of in
+    let weight = c .before .before .before .before .before .before .values-by-rank in
+    let bits = c .before .before .before .before .before .bits-by-rank in
+    let powers = c .before .before .before .before .powers in
+    let points = c .before .before .before .values-by-rank2 in
+    let symbols = c .before .before .symbol-table in
     let m = start .args .m in
     let t = start .args .t in
     let known = start .pre .0 in
@@ -90,9 +108,9 @@ returns c =
     let p : Prepared = record {
       size = size .result;
       rows = n .result - size .result;
-      hards = received .result .hards;
+      hards = c .bytes-of .result;
       sides = bits .result / 2 ^ size .result;
-      base = c .row-sums .result;
+      base = c .before .row-sums .result;
       order = order .result;
       weight = weight .result;
       symbols = symbols .result;
@@ -101,7 +119,7 @@ returns c =
     (record {
       size = f;
       rows = omega (arith, roots-fit m t known);
-      hards = refl;
+      hards = c .bytes-of .ensures;
       order = order .ensures;
       powers = powers .ensures;
       points = points .ensures;
@@ -109,7 +127,7 @@ returns c =
       bits = bits .ensures;
       sides = refl;
       symbols = symbols .ensures;
-      base = c .row-sums .ensures;
+      base = c .before .row-sums .ensures;
     })
 
 pub prepare-spec : {M : Type 1} → statement M
@@ -128,4 +146,8 @@ prepare-spec =
     values-by-rank-requires-2
     symbol-table-requires
     row-sums-requires
+    bytes-of-requires
+    cast-t21
+    cast-t22
+    cast-t23
     returns)

@@ -38,6 +38,9 @@ low c =
     let a = c .before .before .before .before .before in
     summed-low (planOf (a .args .t1)) (a .pre .0) _ _ _ _ (c .before .loop .inv) (some c)
 
+cast-rows : tie.Need-cast-rows Inv-loop μ-loop Inv-outside μ-outside
+cast-rows c = search needs
+
 outside-holds : tie.Need-outside-holds Inv-loop μ-loop Inv-outside μ-outside
 outside-holds c = binary-start (planOf (c .args .t1)) (c .args .flips)
 
@@ -116,6 +119,12 @@ whole c =
     let end : o .q ≡ c .before .before .before .args .t1 .rows = omega (arith, c .if2 .left, o .inv .most) in
     rw end at (o .inv)
 
+cast-ranks : tie.Need-cast-ranks Inv-loop μ-loop Inv-outside μ-outside
+cast-ranks c = search needs
+
+cast-ranks-2 : tie.Need-cast-ranks-2 Inv-loop μ-loop Inv-outside μ-outside
+cast-ranks-2 c = search needs
+
 shl-ranks : tie.Need-shl-ranks Inv-loop μ-loop Inv-outside μ-outside
 shl-ranks c = omega (arith, c .before .before .before .pre .0 .sizes)
 
@@ -149,6 +158,7 @@ pattern-spec =
     μ-loop
     Inv-outside
     μ-outside
+    cast-rows
     outside-holds
     element-copy-out-symbol
     cast-symbol
@@ -166,6 +176,8 @@ pattern-spec =
     outside-less
     outside-again
     returns
+    cast-ranks
+    cast-ranks-2
     shl-ranks
     weigh-requires
     with-requires

@@ -1,10 +1,12 @@
 -- `weigh` meets its contract: in each turn the lowest rank that is left goes from `g` into the word, the distance and the flips.
 -- Assumes nothing.
-use Prim.Native.Nat.{_+_, _<_}
+use mathlib.Core.Path.{sym, subst}
+use Prim.Native.Nat.{ℕ, _+_, _<_}
 use native.Mathlib.Nat.{one-mul, mod-eq-of-lt}
 use native.Mathlib.Omega.{arith}
 use lib.Pow.{pow-lt}
 use lib.Count.{trailingZeros}
+use borrow.Author.Needs.{needs}
 use Rattle.field.specs.Field.{_⊕_}
 use Rattle.search.proofs.LowestBit.{turn-less}
 use Rattle.prepare.specs.PlanOf.{planOf}
@@ -22,17 +24,23 @@ abbrev μ-loop : tie.MeasureT-loop
 some : (c : tie.In-loop Inv-loop μ-loop) → 0 < c .before .loop .g
 some c = ne-pos (c .before .loop .g) (c .loop-test .taken)
 
-low : (c : tie.In-loop Inv-loop μ-loop) → trailingZeros 64 (c .before .loop .g) < c .before .before .args .t1 .size + c .before .before .args .t1 .rows
-low c = left-low (planOf (c .before .before .args .t1)) (c .before .before .pre .0) _ _ _ _ _ (c .before .loop .inv) (some c)
+low : (c : tie.In-loop Inv-loop μ-loop) → trailingZeros 64 (c .before .loop .g) < c .before .before .before .before .before .before .args .t1 .size + c .before .before .before .before .before .before .args .t1 .rows
+low c = left-low (planOf (c .before .before .before .before .before .before .args .t1)) (c .before .before .before .before .before .before .pre .0) _ _ _ _ _ (c .before .loop .inv) (some c)
 
 near : (c : tie.In-loop Inv-loop μ-loop) → trailingZeros 64 (c .before .loop .g) < 63
-near c = omega (arith, low c, c .before .before .pre .0 .all)
+near c = omega (arith, low c, c .before .before .before .before .before .before .pre .0 .all)
 
-placed : (c : tie.In-loop Inv-loop μ-loop) → planOf (c .before .before .args .t1) .place (trailingZeros 64 (c .before .loop .g)) < 63
-placed c = c .before .before .pre .0 .places _ (low c)
+placed : (c : tie.In-loop Inv-loop μ-loop) → planOf (c .before .before .before .before .before .before .args .t1) .place (trailingZeros 64 (c .before .loop .g)) < 63
+placed c = c .before .before .before .before .before .before .pre .0 .places _ (low c)
+
+word-in-requires : tie.Need-word-in-requires Inv-loop μ-loop
+word-in-requires c κs = search needs
 
 loop-holds : tie.Need-loop-holds Inv-loop μ-loop
-loop-holds c = left-start (planOf (c .args .t1)) (c .args .ranks) (c .pre .1)
+loop-holds c =
+    let a = c .before .before .before .before in
+    let p = planOf (a .args .t1) in
+    subst (λ (w : ℕ). Left p (a .args .ranks) w 0 0 (a .args .ranks)) (sym (c .word-in .ensures)) (left-start p (a .args .ranks) (a .pre .1))
 
 cast-distance : tie.Need-cast-distance Inv-loop μ-loop
 cast-distance c = record { fits = omega (arith, near c) }
@@ -53,18 +61,18 @@ element-copy-out-distance : tie.Need-element-copy-out-distance Inv-loop μ-loop
 element-copy-out-distance c = near (c .before .before .before)
 
 cast-distance-2 : tie.Need-cast-distance-2 Inv-loop μ-loop
-cast-distance-2 c = record { fits = omega (arith, c .before .before .before .before .before .before .pre .0 .weights _ (low (c .before .before .before .before))) }
+cast-distance-2 c = record { fits = omega (arith, c .before .before .before .before .before .before .before .before .before .before .pre .0 .weights _ (low (c .before .before .before .before))) }
 
 add-distance : tie.Need-add-distance Inv-loop μ-loop
 add-distance c =
     let l = c .before .before .before .before .before .loop in
-    let a = c .before .before .before .before .before .before in
+    let a = c .before .before .before .before .before .before .before .before .before .before in
     record { fits = omega (arith, left-distance (planOf (a .args .t1)) (a .pre .0) _ _ _ _ _ (l .inv) (some (c .before .before .before .before))) }
 
 add-flips : tie.Need-add-flips Inv-loop μ-loop
 add-flips c =
     let l = c .before .before .before .before .before .loop in
-    let a = c .before .before .before .before .before .before in
+    let a = c .before .before .before .before .before .before .before .before .before .before in
     record { fits = omega (arith, left-flips (planOf (a .args .t1)) (a .pre .0) _ _ _ _ _ (l .inv) (some (c .before .before .before .before))) }
 
 sub-g : tie.Need-sub-g Inv-loop μ-loop
@@ -77,11 +85,11 @@ loop-again : tie.Need-loop-again Inv-loop μ-loop
 unfolding _⊕_
 loop-again c =
     let l = c .before .before .before .before .before .loop in
-    let a = c .before .before .before .before .before .before in
+    let a = c .before .before .before .before .before .before .before .before .before .before in
     rw (one-mul, mod-eq-of-lt (pow-lt (shl-word (c .before)))) (left-turn (planOf (a .args .t1)) (a .pre .0) _ _ _ _ _ (l .inv) (some (c .before .before .before .before)))
 
 returns : tie.Need-returns Inv-loop μ-loop
-returns c = left-end (planOf (c .before .before .args .t1)) (c .before .before .pre .0) _ _ _ _ _ (c .before .loop .inv) (c .loop-test .left)
+returns c = left-end (planOf (c .before .before .before .before .before .before .args .t1)) (c .before .before .before .before .before .before .pre .0) _ _ _ _ _ (c .before .loop .inv) (c .loop-test .left)
 
 pub weigh-spec : {M : Type 1} → statement M
 weigh-spec =
@@ -89,6 +97,7 @@ weigh-spec =
     (tie.spec
     Inv-loop
     μ-loop
+    word-in-requires
     loop-holds
     cast-distance
     cast-i

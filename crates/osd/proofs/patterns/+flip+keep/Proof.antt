@@ -104,16 +104,6 @@ keep-returns t c =
     ∙ sym (ap (λ (y : ℕ). bestOver (λ i. i) leaf (a .p .size - a .rank .0) (a .rank .0) y (a .flips) (asBest (a .best))) (c .before .if1 .taken)
     ∙ search-early (λ i. i) leaf (a .p .size - a .rank .0) (a .rank .0) (a .flips) (asBest (a .best)))
 
-keep-cast-if2 : (t : ℕ) → keep-lts.Need-cast-if2 (
-  pattern-reads.Asked,
-  pattern-reads.Learnt,
-  keep-below t,
-  keep.Post,
-  flip-below t,
-  flip.Post,
-) (keep-at t) keep.Post
-keep-cast-if2 t c = omega (arith, c .before .pre .1 .0 .0 .sizes)
-
 keep-pattern-requires-2 : (t : ℕ) → keep-lts.Need-pattern-requires-2 (
   pattern-reads.Asked,
   pattern-reads.Learnt,
@@ -140,7 +130,7 @@ keep-returns-2 t c =
     c .pattern2 .ensures
     ∙ sym (search-end (λ i. i) (tried (planOf (a .p))) (a .p .size) (a .rank .0) (a .may) (a .flips) (asBest (a .best)) (c .before .if2 .taken))
 
-keep-add-t10 : (t : ℕ) → keep-lts.Need-add-t10 (
+keep-add-t9 : (t : ℕ) → keep-lts.Need-add-t9 (
   pattern-reads.Asked,
   pattern-reads.Learnt,
   keep-below t,
@@ -148,7 +138,7 @@ keep-add-t10 : (t : ℕ) → keep-lts.Need-add-t10 (
   flip-below t,
   flip.Post,
 ) (keep-at t) keep.Post
-keep-add-t10 t c = omega (arith, c .before .before .before .pre .1 .0 .0 .sizes)
+keep-add-t9 t c = omega (arith, c .before .before .before .pre .1 .0 .0 .sizes)
 
 keep-keep-requires : (t : ℕ) → keep-lts.Need-keep-requires (
   pattern-reads.Asked,
@@ -220,10 +210,9 @@ pub +flip+keep-spec : {M : Type 1} → statement M
     keep.Post
     (keep-pattern-requires t)
     (keep-returns t)
-    (keep-cast-if2 t)
     (keep-pattern-requires-2 t)
     (keep-returns-2 t)
-    (keep-add-t10 t)
+    (keep-add-t9 t)
     (keep-keep-requires t)
     (keep-flip-requires t)
     (keep-returns-3 t)
