@@ -36,6 +36,9 @@ unfolding entryOf dimensionOf parityOf lengthOf
 parity-full m t k = eqb→eq (parityOf m t + dimensionOf m t) (lengthOf m) (each-code (λ x y. eqb (parityOf x y + dimensionOf x y) (lengthOf x)) tt m t k)
 
 -- there are fewer roots than positions
-pub roots-fit : (m t : ℕ) → Known m t → 2 * t ≤ lengthOf m
+pub length-large : (m : ℕ) → 4 ≤ m → m ≤ 6 → 15 ≤ lengthOf m
 unfolding lengthOf
-roots-fit m t k = leb→le (2 * t) (lengthOf m) (each-code (λ x y. leb (2 * y) (lengthOf x)) tt m t k)
+length-large m a c = leb→le 15 (lengthOf m) (each-m (λ x. leb 15 (lengthOf x)) tt m a c)
+
+pub roots-fit : (m t : ℕ) → Known m t → 2 * t ≤ lengthOf m
+roots-fit m t k = omega (arith, length-large m (k .m-low) (k .m-high), k .t-high)
