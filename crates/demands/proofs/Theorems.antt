@@ -14,7 +14,8 @@ use Rattle.frame.proofs.PackedBits.{packed-bit}
 use Rattle.codec.proofs.CodecOneAnswer as codec
 use Rattle.codec.proofs.RoundTrip as trip
 use Rattle.decode.proofs.DecodeOneAnswer as decode
-use Rattle.demands.specs.OneAnswer.{EncodeHasOneAnswer, ReadHasOneAnswer, DecodeHasOneAnswer}
+use Rattle.export.proofs.ToldOneAnswer as told
+use Rattle.demands.specs.OneAnswer.{EncodeHasOneAnswer, ReadHasOneAnswer, DecodeHasOneAnswer, DecodeTellsOneAnswer, ReadTellsOneAnswer}
 use Rattle.demands.specs.Packed.{BitsArePacked}
 use Rattle.demands.specs.BringsBack.{ReadBringsBack, EncodeWritesAgain}
 use Rattle.demands.specs.Settled.{settled, Each}
@@ -81,6 +82,12 @@ read-has-one-answer = codec.read-one-answer
 
 pub decode-has-one-answer : DecodeHasOneAnswer
 decode-has-one-answer = decode.decode-one-answer
+
+pub decode-tells-one-answer : DecodeTellsOneAnswer
+decode-tells-one-answer = told.decode-told-one
+
+pub read-tells-one-answer : ReadTellsOneAnswer
+read-tells-one-answer = told.read-told-one
 
 pub read-brings-back : ReadBringsBack
 read-brings-back = trip.encode-then-read

@@ -1,2 +1,3 @@
 pub mod NarrowLaws
 pub mod ToldLaws
+pub mod ToldOneAnswer
