@@ -6,8 +6,9 @@ use Rattle.field.specs.Laws.{FieldsAreLawful}
 use Rattle.field.proofs.FieldLaws.{laws}
 use Rattle.codes.specs.Claims.{GeneratorsAreRight, OneWordForEachMessage, CodewordsAreApart, PlacesFixAWord, CellsAreThePapers, CellsAreShort}
 use Rattle.codes.proofs.ClaimsShown as codes
-use Rattle.soft.specs.Claims.{SortedByRank, FirstAreReliable}
+use Rattle.soft.specs.Claims.{SortedByRank, FirstAreReliable, DistancesAreSmall}
 use Rattle.soft.proofs.OrderLaws as order
+use Rattle.soft.proofs.DistanceLaws as distance
 use Rattle.search.specs.Claims.{PatternsAreBinomials, EveryCandidateHasOnePattern, BinaryPatternsAreCandidates, BestIsNearest, CandidatesAreCounted, NothingIsMissed}
 use Rattle.search.proofs.ClaimsShown as search-shown
 use Rattle.frame.proofs.PackedBits.{packed-bit}
@@ -43,12 +44,15 @@ cells-are-the-papers = codes.cells-are-the-papers
 pub cells-are-short : CellsAreShort
 cells-are-short = codes.cells-are-short
 
--- the order of positions
+-- the order of positions, and distances
 pub sorted-by-rank : SortedByRank
 sorted-by-rank = order.rank-at
 
 pub first-are-reliable : FirstAreReliable
 first-are-reliable = order.reliable-says
+
+pub distances-are-small : DistancesAreSmall
+distances-are-small = distance.distance-at-most
 
 -- the search
 pub patterns-are-binomials : PatternsAreBinomials
