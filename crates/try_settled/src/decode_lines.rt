@@ -1,5 +1,4 @@
 // A decode call and its line.
-ghost use mathlib.Core.Bool.{true, false};
 ghost use mathlib.Core.Path.{_≡_};
 ghost use Prim.Native.Nat.{_≤_, _<_};
 ghost use lib.ListN.{length};
@@ -11,53 +10,15 @@ use crate::text::put_hex_bytes;
 use crate::text::put_long_bytes;
 use crate::text::put_text;
 
-// A received word in short. Bit p of `ones` is the hard decision at position p. The reliability there is `small` where bit p of `weak` is
-// 1, and elsewhere `size`, to which an uneven word adds what is left of 29 times p by 97.
-pub struct Received {
-    pub ones: u64,
-    pub size: u8,
-    pub uneven: bool,
-    pub weak: u64,
-    pub small: u8,
-}
-
-// Of one reliability.
-pub fn even(ones: u64, size: u8) -> Received
-    ensures { λ r. ⌜ r ≡ record { ones = ones; size = size; uneven = false; weak = 0; small = 0 } ⌝ }
-{
-    Received {
-        ones,
-        size,
-        uneven: false,
-        weak: 0,
-        small: 0,
-    }
-}
-
-// Of two reliabilities.
-pub fn weaker(ones: u64, size: u8, weak: u64, small: u8) -> Received
-    ensures { λ r. ⌜ r ≡ record { ones = ones; size = size; uneven = false; weak = weak; small = small } ⌝ }
-{
-    Received {
-        ones,
-        size,
-        uneven: false,
-        weak,
-        small,
-    }
-}
-
-// Of as many reliabilities as positions, from 20 to 116 and in no order.
-pub fn uneven(ones: u64) -> Received
-    ensures { λ r. ⌜ r ≡ record { ones = ones; size = 20; uneven = true; weak = 0; small = 0 } ⌝ }
-{
-    Received {
-        ones,
-        size: 20,
-        uneven: true,
-        weak: 0,
-        small: 0,
-    }
+// A received word in short, of which both the values and their text are made. Bit p of `ones` is the hard decision at position p. The
+// reliability there is `small` where bit p of `weak` is 1, and elsewhere `size`, to which an uneven word adds what is left of 29 times p by
+// 97. A reliability of 128 goes with a hard decision of 1 alone, and 0 with a 0.
+struct Received {
+    ones: u64,
+    size: u8,
+    uneven: bool,
+    weak: u64,
+    small: u8,
 }
 
 fn size_at(received: Received, p: usize) -> u8
@@ -135,15 +96,18 @@ fn put_decoding(decoding: decode::Decoding) {
     put_text(b", buffer ");
 }
 
-// The call, the answer's part of its line, and the buffer.
-fn decode_into(m: u16, t: u16, s: u16, order: u16, values: &[i8], buf: &mut [u8]) {
+// The call, the rest of its line, and where that is wanted a read of what stands in the buffer.
+fn decode_into(m: u16, t: u16, s: u16, order: u16, values: &[i8], buf: &mut [u8], then_read: bool) {
     put_decoding(decode::decode(m, t, s, order, values, buf));
     put_hex_bytes(buf);
     put_text(b"\n");
+    if then_read {
+        read_case(m, t, s, buf);
+    }
 }
 
-// A decode call with the first `count` values of a received word, and a buffer of `room` bytes.
-pub fn decode_case(
+// The first `count` values of a received word, and a buffer of `room` bytes.
+fn decode_case(
     m: u16,
     t: u16,
     s: u16,
@@ -151,6 +115,7 @@ pub fn decode_case(
     received: Received,
     count: usize,
     room: usize,
+    then_read: bool,
 )
     requires { ⌜ (count ≤ 64) × (room ≤ 11) ⌝ }
 {
@@ -158,41 +123,85 @@ pub fn decode_case(
     put_values(received, count);
     let values = values_of(received);
     let mut space = [255u8; 11];
-    decode_into(m, t, s, order, &values[0..count], &mut space[0..room]);
+    decode_into(
+        m,
+        t,
+        s,
+        order,
+        &values[0..count],
+        &mut space[0..room],
+        then_read,
+    );
 }
 
-fn decode_read_into(m: u16, t: u16, s: u16, order: u16, values: &[i8], buf: &mut [u8]) {
-    decode_into(m, t, s, order, values, buf);
-    read_case(m, t, s, buf);
-}
-
-// The same, and then reads what stands in the buffer.
-pub fn decode_read_case(
+// Values of one size and, where bits of `weak` are 1, of another.
+pub fn weaker_case(
     m: u16,
     t: u16,
     s: u16,
     order: u16,
-    received: Received,
+    ones: u64,
+    size: u8,
+    weak: u64,
+    small: u8,
     count: usize,
     room: usize,
 )
     requires { ⌜ (count ≤ 64) × (room ≤ 11) ⌝ }
 {
-    put_decode(m, t, s, order);
-    put_values(received, count);
-    let values = values_of(received);
-    let mut space = [255u8; 11];
-    decode_read_into(m, t, s, order, &values[0..count], &mut space[0..room]);
+    let received = Received {
+        ones,
+        size,
+        uneven: false,
+        weak,
+        small,
+    };
+    decode_case(m, t, s, order, received, count, room, false);
 }
 
-// Unshortened, at each order that there is.
-pub fn decode_orders(m: u16, t: u16, received: Received, count: usize, room: usize)
+// Values of one size, unshortened, at each order that there is.
+pub fn each_order(m: u16, t: u16, ones: u64, size: u8, count: usize, room: usize)
     requires { ⌜ (count ≤ 64) × (room ≤ 11) ⌝ }
 {
-    decode_case(m, t, 0, 0, received, count, room);
-    decode_case(m, t, 0, 1, received, count, room);
-    decode_case(m, t, 0, 2, received, count, room);
-    decode_case(m, t, 0, 3, received, count, room);
+    weaker_case(m, t, 0, 0, ones, size, 0, 0, count, room);
+    weaker_case(m, t, 0, 1, ones, size, 0, 0, count, room);
+    weaker_case(m, t, 0, 2, ones, size, 0, 0, count, room);
+    weaker_case(m, t, 0, 3, ones, size, 0, 0, count, room);
+}
+
+// Values of sizes from 20 to 116, which all differ and are in no order.
+pub fn uneven_case(m: u16, t: u16, s: u16, order: u16, ones: u64, count: usize, room: usize)
+    requires { ⌜ (count ≤ 64) × (room ≤ 11) ⌝ }
+{
+    let received = Received {
+        ones,
+        size: 20,
+        uneven: true,
+        weak: 0,
+        small: 0,
+    };
+    decode_case(m, t, s, order, received, count, room, false);
+}
+
+// Values of size 10.
+pub fn tens_case(m: u16, t: u16, s: u16, order: u16, ones: u64, count: usize, room: usize)
+    requires { ⌜ (count ≤ 64) × (room ≤ 11) ⌝ }
+{
+    weaker_case(m, t, s, order, ones, 10, 0, 0, count, room);
+}
+
+// Values of size 10, and then a read of the answer.
+pub fn tens_read_case(m: u16, t: u16, s: u16, order: u16, ones: u64, count: usize, room: usize)
+    requires { ⌜ (count ≤ 64) × (room ≤ 11) ⌝ }
+{
+    let received = Received {
+        ones,
+        size: 10,
+        uneven: false,
+        weak: 0,
+        small: 0,
+    };
+    decode_case(m, t, s, order, received, count, room, true);
 }
 
 fn thousands_of_tens() -> [i8; 4096]

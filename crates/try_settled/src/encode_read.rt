@@ -92,61 +92,36 @@ fn largest(bits: u16) -> u64
     u64::MAX >> (64 - bits)
 }
 
-// What is tried of each of the nine codes.
-enum Trial {
-    ReadBack,
-    Message,
-    Shortening,
-}
-
-fn read_back(m: u16, t: u16, k: u16)
+// Messages brought back; the largest message and one more, unshortened and shortened by 1; one message bit, and none.
+fn code_edges(m: u16, t: u16, k: u16)
     requires { ⌜ (3 < k) × (k < 64) ⌝ }
 {
     both_case(m, t, 0, 1);
     both_case(m, t, 0, largest(k));
     both_case(m, t, 3, 1);
     both_case(m, t, 3, largest(k - 3));
-}
-
-// The largest message and one more, unshortened and shortened by 1.
-fn message_edge(m: u16, t: u16, k: u16)
-    requires { ⌜ (3 < k) × (k < 64) ⌝ }
-{
     encode_case(m, t, 0, largest(k), 8);
     encode_case(m, t, 0, past(k), 8);
     encode_case(m, t, 1, largest(k - 1), 8);
     encode_case(m, t, 1, past(k - 1), 8);
-}
-
-// One message bit, and none.
-fn shortening_edge(m: u16, t: u16, k: u16)
-    requires { ⌜ (3 < k) × (k < 64) ⌝ }
-{
     both_case(m, t, k - 1, 1);
     encode_case(m, t, k, 0, 8);
     read_zero_case(m, t, k);
 }
 
-fn try_code(trial: Trial, m: u16, t: u16, k: u16)
-    requires { ⌜ (3 < k) × (k < 64) ⌝ }
-{
-    match trial {
-        Trial::ReadBack => read_back(m, t, k),
-        Trial::Message => message_edge(m, t, k),
-        Trial::Shortening => shortening_edge(m, t, k),
-    }
-}
-
-fn try_codes(trial: Trial) {
-    try_code(trial, 4, 1, 11);
-    try_code(trial, 4, 2, 7);
-    try_code(trial, 4, 3, 5);
-    try_code(trial, 5, 1, 26);
-    try_code(trial, 5, 2, 21);
-    try_code(trial, 5, 3, 16);
-    try_code(trial, 6, 1, 57);
-    try_code(trial, 6, 2, 51);
-    try_code(trial, 6, 3, 45);
+fn nine_codes() {
+    put_text(
+        b"Each of the nine codes: messages read back, the largest message and one more, one message bit and none:\n",
+    );
+    code_edges(4, 1, 11);
+    code_edges(4, 2, 7);
+    code_edges(4, 3, 5);
+    code_edges(5, 1, 26);
+    code_edges(5, 2, 21);
+    code_edges(5, 3, 16);
+    code_edges(6, 1, 57);
+    code_edges(6, 2, 51);
+    code_edges(6, 3, 45);
 }
 
 fn settled_encode() {
@@ -231,19 +206,20 @@ fn wrong_bits() {
     }
 }
 
-fn unknown_code(m: u16, t: u16) {
-    encode_case(m, t, 0, 1, 8);
-    read_zero_case(m, t, 0);
-}
-
 fn unknown_codes() {
     put_text(b"m not 4 to 6, t not 1 to 3 (260 is 4 in eight bits, 257 is 1):\n");
-    unknown_code(3, 1);
-    unknown_code(7, 1);
-    unknown_code(260, 1);
-    unknown_code(4, 0);
-    unknown_code(4, 4);
-    unknown_code(4, 257);
+    encode_case(3, 1, 0, 1, 8);
+    read_zero_case(3, 1, 0);
+    encode_case(7, 1, 0, 1, 8);
+    read_zero_case(7, 1, 0);
+    encode_case(260, 1, 0, 1, 8);
+    read_zero_case(260, 1, 0);
+    encode_case(4, 0, 0, 1, 8);
+    read_zero_case(4, 0, 0);
+    encode_case(4, 4, 0, 1, 8);
+    read_zero_case(4, 4, 0);
+    encode_case(4, 257, 0, 1, 8);
+    read_zero_case(4, 257, 0);
 }
 
 fn two_faults_encode() {
@@ -272,7 +248,7 @@ fn two_faults_read() {
     read_case(7, 4, 65535, b"\x12");
 }
 
-fn enormous_encode() {
+fn enormous() {
     put_text(b"Encode, the enormous and the empty:\n");
     encode_case(65535, 1, 0, 0, 8);
     encode_case(4, 65535, 0, 0, 8);
@@ -285,9 +261,6 @@ fn enormous_encode() {
     encode_case(4, 1, 0, 1, 0);
     encode_case(5, 1, 0, 1, 0);
     encode_case(6, 1, 0, 1, 0);
-}
-
-fn enormous_read() {
     put_text(b"Read, the enormous and the empty:\n");
     read_zero_case(65535, 1, 0);
     read_zero_case(4, 65535, 0);
@@ -297,9 +270,6 @@ fn enormous_read() {
     read_case(4, 1, 0, b"");
     read_case(5, 1, 0, b"");
     read_case(6, 1, 0, b"");
-}
-
-fn thousands() {
     put_text(b"Thousands of bytes:\n");
     long_case(4, 1, 0, 1);
     long_case(5, 2, 0, 1);
@@ -309,12 +279,7 @@ fn thousands() {
 
 pub fn run() {
     settled_encode();
-    put_text(b"Each of the nine codes, messages encoded and read back:\n");
-    try_codes(Trial::ReadBack);
-    put_text(b"Each of the nine codes, the largest message and one more:\n");
-    try_codes(Trial::Message);
-    put_text(b"Each of the nine codes, shortened to one message bit and to none:\n");
-    try_codes(Trial::Shortening);
+    nine_codes();
     buffers();
     pad_bits();
     unsent_bits();
@@ -322,7 +287,5 @@ pub fn run() {
     unknown_codes();
     two_faults_encode();
     two_faults_read();
-    enormous_encode();
-    enormous_read();
-    thousands();
+    enormous();
 }
