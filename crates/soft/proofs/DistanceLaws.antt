@@ -1,5 +1,4 @@
 -- How large a soft distance can be, so that it fits its sixteen bits. Assumes nothing.
-use mathlib.Core.Path.{_≡_}
 use mathlib.Core.Bool.{Bool, true, false}
 use mathlib.Core.List.{List}
 use Prim.Native.Nat.{ℕ, zero, suc, _*_, _<_, _≤_}
