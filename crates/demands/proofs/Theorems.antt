@@ -9,7 +9,7 @@ use Rattle.codes.proofs.ClaimsShown as codes
 use Rattle.soft.specs.Claims.{SortedByRank, FirstAreReliable, DistancesAreSmall}
 use Rattle.soft.proofs.OrderLaws as order
 use Rattle.soft.proofs.DistanceLaws as distance
-use Rattle.search.specs.Claims.{PatternsAreBinomials, EveryCandidateHasOnePattern, BinaryPatternsAreCandidates, BestIsNearest, CandidatesAreCounted, NothingIsMissed}
+use Rattle.search.specs.Claims.{PatternsAreCounted, PatternsAreBinomials, EveryCandidateHasOnePattern, BinaryPatternsAreCandidates, BestIsNearest, CandidatesAreCounted, NothingIsMissed}
 use Rattle.search.proofs.ClaimsShown as search-shown
 use Rattle.frame.proofs.PackedBits.{packed-bit}
 use Rattle.codec.proofs.CodecOneAnswer as codec
@@ -55,6 +55,9 @@ pub distances-are-small : DistancesAreSmall
 distances-are-small = distance.distance-at-most
 
 -- the search
+pub patterns-are-counted : PatternsAreCounted
+patterns-are-counted = search-shown.patterns-are-counted
+
 pub patterns-are-binomials : PatternsAreBinomials
 patterns-are-binomials = search-shown.patterns-are-binomials
 

@@ -8,8 +8,10 @@ use Rattle.field.specs.Below.{total}
 use Rattle.field.proofs.TotalLaws.{total-head, total-plus}
 use Rattle.field.proofs.FieldLaws.{laws}
 use Rattle.search.specs.Search.{patterns}
-use Rattle.search.specs.Claims.{choose, PatternsAreBinomials, EveryCandidateHasOnePattern, BinaryPatternsAreCandidates, BestIsNearest, CandidatesAreCounted, NothingIsMissed}
+use Rattle.search.specs.Pattern.{choose}
+use Rattle.search.specs.Claims.{PatternsAreCounted, PatternsAreBinomials, EveryCandidateHasOnePattern, BinaryPatternsAreCandidates, BestIsNearest, CandidatesAreCounted, NothingIsMissed}
 use Rattle.search.proofs.BestIsNearest.{search-counts, search-nearest, search-distance, search-flips, search-finds}
+use Rattle.search.proofs.PatternsCounted.{patterns-listed}
 use Rattle.search.proofs.OnePatternEach.{binary-candidate, candidate-pattern, pattern-one}
 
 -- a sum of binomial coefficients by Pascal's rule
@@ -27,6 +29,9 @@ choose-none (suc tau) = omega (arith, choose-none tau)
 choose-one : (k : ℕ) → total 1 (choose k) ≡ 1
 unfolding choose total
 choose-one k = refl
+
+pub patterns-are-counted : PatternsAreCounted
+patterns-are-counted = patterns-listed
 
 pub patterns-are-binomials : PatternsAreBinomials
 unfolding patterns

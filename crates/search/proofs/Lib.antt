@@ -6,6 +6,7 @@ pub mod BestIsNearest
 pub mod BitSumLaws
 pub mod RankBits
 pub mod RankSearch
+pub mod PatternsCounted
 pub mod OnePatternEach
 pub mod ClaimsShown
 pub mod LowestBit

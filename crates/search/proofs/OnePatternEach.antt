@@ -19,7 +19,7 @@ use Rattle.soft.specs.Distance.{reliableFlips}
 use Rattle.search.specs.Candidate.{Candidate}
 use Rattle.search.specs.Search.{binary, completed}
 use Rattle.search.specs.ByRank.{sumBits}
-use Rattle.search.specs.Claims.{Pattern, flippedBy}
+use Rattle.search.specs.Pattern.{Pattern, flippedBy}
 use Rattle.search.proofs.EveryCandidateSeen.{apart, leaf→, leaf←}
 use Rattle.search.proofs.BestIsNearest.{apart-total, flips-by-rank}
 use Rattle.search.proofs.RankBits.{spread-at, sum-bits-total}

@@ -1,41 +1,31 @@
--- What is shown of the search: each claim a type, each proved under the same name in proofs/ClaimsShown. A pattern is the set of the
--- reliable ranks that are flipped, bit j for rank j.
---   Pattern m r tau f             f is a pattern with at most tau flips
---   flippedBy m r R soft f        the hard decisions with the ranks of f flipped
---   choose k i                    the binomial coefficient C(k, i)
+-- What is shown of the search: each claim a type, each proved under the same name in proofs/ClaimsShown.
 --   EveryCandidateHasOnePattern   a candidate is what exactly one pattern completes to
 --   BinaryPatternsAreCandidates   what a binary pattern completes to is a candidate
+--   PatternsAreCounted            `patterns` is the number of patterns that there are
 --   PatternsAreBinomials          the number of patterns is the sum of C(n-2t, i) for i from 0 to tau
 --   BestIsNearest                 the best that comes back is nearest, with its distance and flips
 --   CandidatesAreCounted          its count is the number of candidates
 --   NothingIsMissed               where a candidate exists, one is found
 -- Assumes nothing.
 use mathlib.Core.Path.{_≡_}
+use mathlib.Core.Logic.{_↔_}
 use mathlib.Core.List.{List}
-use Prim.Native.Nat.{ℕ, zero, suc, _+_, _-_, _^_, _<_, _≤_}
+use Prim.Native.Nat.{ℕ, suc, _-_, _≤_}
 use lib.Dec.{T}
 use lib.IntN.{ℤ}
+use lib.ListN.{length}
 use Rattle.field.specs.Below.{total}
-use Rattle.field.specs.Field.{_⊕_, lengthOf}
-use Rattle.codes.specs.Word.{wordOf}
-use Rattle.soft.specs.Value.{hard}
+use Rattle.field.specs.Field.{lengthOf}
 use Rattle.soft.specs.Order.{Sorted}
 use Rattle.soft.specs.Distance.{softDistance, flipsOf}
-use Rattle.search.specs.Candidate.{Candidate, Nearest, Counted}
+use Rattle.search.specs.Candidate.{Candidate, Nearest, Counted, Member, NoRepeats}
 use Rattle.search.specs.Search.{patterns, binary, completed, searched}
-use Rattle.search.specs.ByRank.{xorBits, sumBits}
+use Rattle.search.specs.Pattern.{Pattern, flippedBy, choose}
 
-pub record Pattern (m r tau f : ℕ) : Type 0 where
-  pub ranks : f < 2 ^ (lengthOf m - r)
-  pub few : sumBits (λ j. 1) (lengthOf m - r) f ≤ tau
-
-unfoldable pub flippedBy : ℕ → ℕ → (ℕ → ℕ) → List ℤ → ℕ → ℕ
-flippedBy m r R soft f = wordOf (lengthOf m) (hard soft) ⊕ xorBits (λ j. 2 ^ R j) (lengthOf m - r) f
-
-unfoldable pub choose : ℕ → ℕ → ℕ
-choose k zero = 1
-choose zero (suc i) = 0
-choose (suc k) (suc i) = choose k (suc i) + choose k i
+-- a list without repeats, whose members are exactly the patterns, has that many
+abbrev pub PatternsAreCounted : Type 0
+PatternsAreCounted = (m r tau : ℕ)
+    → (l : List ℕ) × NoRepeats l × ((f : ℕ) → Member f l ↔ Pattern m r tau f) × (length l ≡ patterns (lengthOf m - r) tau)
 
 -- "The number of patterns is the sum of C(n-2t, i) for i from 0 to tau."
 abbrev pub PatternsAreBinomials : Type 0

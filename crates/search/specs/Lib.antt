@@ -3,4 +3,5 @@ pub mod Best
 pub mod Search
 pub mod Plan
 pub mod ByRank
+pub mod Pattern
 pub mod Claims
