@@ -4,16 +4,17 @@ use mathlib.Core.Path.{_≡_, refl, sym, ap, _∙_, subst}
 use mathlib.Core.Logic.{_≢_}
 use mathlib.Core.List.{List}
 use Prim.Native.Nat.{ℕ, _+_, _-_, _*_, _/_, _%_, _^_, _<_, _≤_}
-use native.Mathlib.Nat.{le-trans, div-lt-iff-lt-mul}
+use native.Mathlib.Nat.{le-trans, div-eq-of-lt}
 use native.Mathlib.Omega.{arith}
-use lib.Pow.{pow-pos, pow-mono, pow-add, shl-exact}
+use lib.Pow.{pow-mono, shl-exact}
 use lib.ListN.{length}
 use Rattle.field.specs.Field.{_⊕_, lengthOf}
 use Rattle.codes.specs.Code.{Known, dimensionOf, parityOf, generatorOf}
 use Rattle.codes.specs.Codeword.{Codeword}
 use Rattle.codes.specs.Generator.{remainderBy, withParity, systematic}
 use Rattle.codes.proofs.ShapeLaws.{parity-full}
-use Rattle.codes.proofs.SystematicWord.{high-lt, systematic-high, systematic-codeword, codeword-high}
+use Rattle.codes.proofs.WordLaws.{below-div, high-lt, high-below}
+use Rattle.codes.proofs.SystematicWord.{systematic-high, systematic-codeword, codeword-high}
 use Rattle.frame.specs.Packing.{written, wordIn}
 use Rattle.frame.specs.Refusal.{encodeRefusal, readRefusal}
 use Rattle.frame.proofs.RefusalLaws.{EncodePassed, ReadPassed, encode-passed, read-passed}
@@ -67,19 +68,18 @@ module _ (m t s : ℕ) (bytes : List ℕ) (N : ℕ) (e : N ≡ readRefusal m t s
     pub read-unsent : 0 < wordIn m bytes / 2 ^ (lengthOf m - s) → ReadAnswers m t s bytes (says 8 0)
     read-unsent l =
         ReadAnswers.unreadable passes
-        (λ r. let z : wordIn m bytes / 2 ^ (lengthOf m - s) < 1 = div-lt-iff-lt-mul (pow-pos (lengthOf m - s)) .1 (omega (arith, r .unsent)) in omega arith) refl
+        (λ r. omega (arith, div-eq-of-lt (r .unsent))) refl
 
     -- without one, what is above the parity is a message
     module _ (l : wordIn m bytes / 2 ^ (lengthOf m - s) ≤ 0) where
       sent : wordIn m bytes < 2 ^ (lengthOf m - s)
-      sent = let z : wordIn m bytes < 1 * 2 ^ (lengthOf m - s) = div-lt-iff-lt-mul (pow-pos (lengthOf m - s)) .0 (omega arith) in omega arith
+      sent = below-div (wordIn m bytes) (lengthOf m - s) (omega arith)
 
       pub read-message-lt : wordIn m bytes / 2 ^ parityOf m t < 2 ^ dimensionOf m t
       read-message-lt =
-          div-lt-iff-lt-mul (pow-pos (parityOf m t)) .1
-          (subst (λ (x : ℕ). wordIn m bytes < x) (pow-add 2 (dimensionOf m t) (parityOf m t))
+          high-below (wordIn m bytes) (parityOf m t) (dimensionOf m t)
           (subst (λ (x : ℕ). wordIn m bytes < 2 ^ x) (omega (arith, parity-full m t (read-checked .known)))
-          (le-trans sent (pow-mono {i = lengthOf m - s} {j = lengthOf m} (omega arith)))))
+          (le-trans sent (pow-mono {i = lengthOf m - s} {j = lengthOf m} (omega arith))))
 
       module _ (word : ℕ) (q : word ≡ systematic m t (wordIn m bytes / 2 ^ parityOf m t)) where
         pub read-other : word ≢ wordIn m bytes → ReadAnswers m t s bytes (says 8 0)

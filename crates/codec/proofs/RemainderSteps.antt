@@ -2,13 +2,13 @@
 use mathlib.Core.Path.{_≡_, sym, ap, _∙_}
 use mathlib.Core.Logic.{_≢_}
 use Prim.Native.Nat.{ℕ, suc, _+_, _-_, _*_, _/_, _%_, _^_, _<_, _≤_}
-use native.Mathlib.Nat.{div-lt-iff-lt-mul, pow-suc, mod-lt, zero-lt-suc}
+use native.Mathlib.Nat.{mod-lt, zero-lt-suc}
 use native.Mathlib.Omega.{arith}
-use lib.Pow.{pow-pos, shl-exact}
+use lib.Pow.{shl-exact}
 use Rattle.field.specs.Field.{_⊕_, bitTimes}
 use Rattle.field.proofs.XorLaws.{xor-zero}
 use Rattle.codes.specs.Generator.{remainderBy}
-use Rattle.codes.proofs.WordLaws.{bit-shift}
+use Rattle.codes.proofs.WordLaws.{bit-shift, top-lt}
 
 module _ (d g i c : ℕ) (some : 0 < i) where
   remainder-turn : (x : ℕ) → c / 2 ^ (d + (i - 1)) % 2 ≡ x → remainderBy d g i c ≡ remainderBy d g (i - 1) (c ⊕ bitTimes x (g * 2 ^ (i - 1)))
@@ -36,6 +36,4 @@ remainder-end d g i c h = let e : i ≡ 0 = omega arith in ap (λ (k : ℕ). rem
 
 -- a generator of degree d, moved up within a word of 63 bits
 pub generator-moved : (d g i : ℕ) → g / 2 ^ d ≡ 1 → d + suc i ≤ 63 → (g * 2 ^ i) % 2 ^ 64 ≡ g * 2 ^ i
-generator-moved d g i top h =
-    let l : g < 2 * 2 ^ d = div-lt-iff-lt-mul (pow-pos d) .0 (omega arith) in
-    shl-exact {a = g} (suc d) i 64 (omega (arith, pow-suc 2 d)) (omega arith)
+generator-moved d g i top h = shl-exact {a = g} (suc d) i 64 (top-lt g d top) (omega arith)

@@ -2,11 +2,10 @@
 use mathlib.Core.Path.{_≡_, refl, sym, ap, _∙_, subst}
 use mathlib.Core.List.{List}
 use Prim.Native.Nat.{ℕ, _-_, _/_, _^_, _<_}
-use native.Mathlib.Nat.{div-lt-iff-lt-mul}
 use native.Mathlib.Omega.{arith}
 use lib.ListN.{length, getD}
-use lib.Pow.{pow-pos, pow-add}
 use Rattle.codes.specs.Code.{dimensionOf, parityOf}
+use Rattle.codes.proofs.WordLaws.{high-below}
 use Rattle.codes.proofs.ShapeLaws.{parity-full}
 use Rattle.codes.proofs.SystematicWord.{codeword-high}
 use Rattle.frame.specs.Packing.{written, wordIn}
@@ -52,9 +51,8 @@ module _ (m t s : ℕ) (bytes : List ℕ) (small : (i : ℕ) → getD bytes i 0 
 
   message-small : message < 2 ^ (dimensionOf m t - s)
   message-small =
-      div-lt-iff-lt-mul (pow-pos (parityOf m t)) .1
-      (subst (λ (x : ℕ). wordIn m bytes < x) (pow-add 2 (dimensionOf m t - s) (parityOf m t))
-      (subst (λ (x : ℕ). wordIn m bytes < 2 ^ x) (omega (arith, parity-full m t (checked .known), checked .short)) (r .unsent)))
+      high-below (wordIn m bytes) (parityOf m t) (dimensionOf m t - s)
+      (subst (λ (x : ℕ). wordIn m bytes < 2 ^ x) (omega (arith, parity-full m t (checked .known), checked .short)) (r .unsent))
 
   passes : encodeRefusal m t s message (length bytes) ≡ 0
   passes = encode-passes m t s message (length bytes) (checked .known) (checked .short) message-small (checked .room)

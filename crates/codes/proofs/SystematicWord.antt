@@ -3,7 +3,7 @@ use mathlib.Core.Path.{_≡_, refl, sym, ap, ap₂, _∙_, subst}
 use Prim.Native.Nat.{ℕ, zero, suc, _+_, _*_, _/_, _^_, _<_, _≤_}
 use native.Mathlib.Nat.{pow-suc, add-suc, add-zero, le-trans, mul-assoc, mod-eq-of-lt, zero-div, div-eq-of-lt, div-lt-iff-lt-mul}
 use native.Mathlib.Omega.{arith}
-use lib.Pow.{pow-pos, pow-mono, pow-add, shl-lt, shl-shr, shr-shr}
+use lib.Pow.{pow-pos, pow-mono, shl-lt, shl-shr, shr-shr}
 use lib.Dec.{T, eqb, eqb→eq}
 use Rattle.field.specs.Below.{all}
 use Rattle.field.specs.Field.{_⊕_, times, alphaTo, lengthOf, bitTimes, lengthOf}
@@ -15,15 +15,9 @@ use Rattle.codes.specs.Word.{bitOf}
 use Rattle.codes.specs.Code.{entryOf, dimensionOf, parityOf, generatorOf, Known}
 use Rattle.codes.specs.Codeword.{valueAt, ZeroFrom, Codeword}
 use Rattle.codes.specs.Generator.{systematic, remainderBy, withParity}
-use Rattle.codes.proofs.WordLaws.{bit-shift, bit-lt}
+use Rattle.codes.proofs.WordLaws.{bit-shift, bit-lt, below-div, top-lt, high-lt}
 use Rattle.codes.proofs.ShapeLaws.{each-code, parity-full}
 use Rattle.codes.proofs.GeneratorRight.{at-bits, at-bit-times, at-shift, good}
-
-div-zero : (x s : ℕ) → x < 2 ^ s → x / 2 ^ s ≡ 0
-div-zero x s h = div-eq-of-lt h
-
-below-div : (x s : ℕ) → x / 2 ^ s ≡ 0 → x < 2 ^ s
-below-div x s e = let h : x < 1 * 2 ^ s = div-lt-iff-lt-mul (pow-pos s) .0 (omega arith) in omega arith
 
 module _ (m : ℕ) (F : Laws m) (o r d : ℕ) (low : (c : ℕ) → c < 2 ^ d → ZeroFrom m o r (bitOf c) → c ≡ 0) where
   -- at most one codeword has the high bits
@@ -68,7 +62,7 @@ module _ (d g : ℕ) (top : g / 2 ^ d ≡ 1) where
   unfolding withParity
   parity-high k M h =
       xor-shr (M * 2 ^ d) (remainderBy d g k (M * 2 ^ d)) d
-      ∙ ap₂ _⊕_ (shl-shr M d) (div-zero _ d (remainder-lt k (M * 2 ^ d) (subst (λ (x : ℕ). M * 2 ^ d < 2 ^ x) (omega arith) (shl-lt k d h))))
+      ∙ ap₂ _⊕_ (shl-shr M d) (div-eq-of-lt (remainder-lt k (M * 2 ^ d) (subst (λ (x : ℕ). M * 2 ^ d < 2 ^ x) (omega arith) (shl-lt k d h))))
       ∙ xor-zero M
 
   module _ (m : ℕ) (F : Laws m) (o r : ℕ) (z : ZeroFrom m o r (bitOf g)) where
@@ -76,14 +70,11 @@ module _ (d g : ℕ) (top : g / 2 ^ d ≡ 1) where
     shifted zero h e a b = ap (λ (u : ℕ). valueAt m (bitOf u) e) (omega arith) ∙ z e a b
     shifted (suc k) h e a b =
         ap (λ (u : ℕ). valueAt m (bitOf u) e) twice
-        ∙ at-shift m F (g * 2 ^ k) e (subst (λ (u : ℕ). u < 2 ^ lengthOf m) twice (le-trans (shl-lt (suc d) (suc k) small) (pow-mono {i = suc d + suc k} (omega arith))))
+        ∙ at-shift m F (g * 2 ^ k) e (subst (λ (u : ℕ). u < 2 ^ lengthOf m) twice (le-trans (shl-lt (suc d) (suc k) (top-lt g d top)) (pow-mono {i = suc d + suc k} (omega arith))))
         ∙ ap (times m (alphaTo m e)) (shifted k (omega arith) e a b) ∙ times-zero m F (alphaTo m e)
       where
         twice : g * 2 ^ suc k ≡ g * 2 ^ k * 2
         twice = ap (λ (x : ℕ). g * x) (pow-suc 2 k) ∙ sym (mul-assoc g (2 ^ k) 2)
-
-        small : g < 2 ^ suc d
-        small = let i : g < 2 * 2 ^ d = div-lt-iff-lt-mul (pow-pos d) .0 (omega arith) in omega (arith, pow-suc 2 d)
 
     remainder-at : (k c e : ℕ) → d + k ≤ lengthOf m → o ≤ e → e < o + r → valueAt m (bitOf (remainderBy d g k c)) e ≡ valueAt m (bitOf c) e
     unfolding remainderBy
@@ -104,10 +95,6 @@ tops = tt
 
 pub top : (m t : ℕ) → Known m t → generatorOf m t / 2 ^ parityOf m t ≡ 1
 top m t k = eqb→eq _ _ (each-code (λ m t. eqb (generatorOf m t / 2 ^ parityOf m t) 1) tops m t k)
-
--- a word whose high bits are below 2^k
-pub high-lt : (w d k : ℕ) → w / 2 ^ d < 2 ^ k → w < 2 ^ (k + d)
-high-lt w d k h = subst (λ (x : ℕ). w < x) (sym (pow-add 2 k d)) (div-lt-iff-lt-mul (pow-pos d) .0 h)
 
 -- the word of a message is a codeword, has the message at the top, and is the only one that has
 module _ (m t M : ℕ) (K : Known m t) (small : M < 2 ^ dimensionOf m t) where

@@ -1,10 +1,10 @@
 -- The bits of a word: of a sum, of a double, of a word with one bit changed; a word by its bits. Assumes nothing.
-use mathlib.Core.Path.{_≡_, refl, sym, ap, _∙_}
+use mathlib.Core.Path.{_≡_, refl, sym, ap, _∙_, subst}
 use Prim.Native.Nat.{ℕ, zero, suc, _+_, _*_, _/_, _%_, _^_, _<_, _≤_}
-use native.Mathlib.Nat.{mod-lt, zero-lt-suc, mul-div-cancel, mul-mod-left, pow-suc}
+use native.Mathlib.Nat.{mod-lt, zero-lt-suc, mul-div-cancel, mul-mod-left, pow-suc, div-lt-iff-lt-mul}
 use native.Mathlib.Omega.{arith}
 use lib.Arith.{lt-one}
-use lib.Pow.{shr-shr}
+use lib.Pow.{shr-shr, pow-pos, pow-add}
 use mathlib.Core.Logic.{_≢_}
 use Rattle.field.specs.Field.{_⊕_}
 use Rattle.field.proofs.XorLaws.{xor-half, xor-odd, xor-eq, xor-lt, xor-self, xor-zero}
@@ -102,3 +102,16 @@ xor-one (suc (suc x)) l e = omega arith
 pub flip-same : (v q : ℕ) → bitOf (v ⊕ 2 ^ q) q ≢ bitOf v q
 flip-same v q e =
     xor-one (bitOf v q) (bit-lt v q) (sym (bit-xor v (2 ^ q) q ∙ ap (λ (x : ℕ). bitOf v q ⊕ x) (bit-power-same q)) ∙ e)
+
+-- a word against what is above its lowest d bits
+pub below-div : (w d : ℕ) → w / 2 ^ d ≡ 0 → w < 2 ^ d
+below-div w d e = let h : w < 1 * 2 ^ d = div-lt-iff-lt-mul (pow-pos d) .0 (omega arith) in omega arith
+
+pub top-lt : (w d : ℕ) → w / 2 ^ d ≡ 1 → w < 2 ^ suc d
+top-lt w d e = let h : w < 2 * 2 ^ d = div-lt-iff-lt-mul (pow-pos d) .0 (omega arith) in omega (arith, pow-suc 2 d)
+
+pub high-lt : (w d k : ℕ) → w / 2 ^ d < 2 ^ k → w < 2 ^ (k + d)
+high-lt w d k h = subst (λ (x : ℕ). w < x) (sym (pow-add 2 k d)) (div-lt-iff-lt-mul (pow-pos d) .0 h)
+
+pub high-below : (w d k : ℕ) → w < 2 ^ (k + d) → w / 2 ^ d < 2 ^ k
+high-below w d k h = div-lt-iff-lt-mul (pow-pos d) .1 (subst (λ (x : ℕ). w < x) (pow-add 2 k d) h)

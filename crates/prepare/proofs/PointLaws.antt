@@ -4,12 +4,12 @@ use mathlib.Core.Path.{_≡_, refl, sym, ap, ap₂, _∙_}
 use mathlib.Core.Logic.{_≢_}
 use mathlib.Core.List.{List, _∷_}
 use Prim.Native.Nat.{ℕ, zero, suc, _+_, _-_, _*_, _/_, _%_, _^_, _<_, _≤_}
-use native.Mathlib.Nat.{le-refl}
+use native.Mathlib.Nat.{le-refl, zero-mul, one-mul}
 use native.Mathlib.Numerals.{add-one}
 use native.Mathlib.Decide.{ℕ-discrete}
 use native.Mathlib.Omega.{arith}
 use lib.ListN.{getD}
-use Rattle.field.specs.Field.{_⊕_, times, inverseOf, alphaTo, lengthOf, bitTimes, xorSum}
+use Rattle.field.specs.Field.{_⊕_, times, inverseOf, alphaTo, lengthOf}
 use Rattle.field.specs.Laws.{Laws}
 use Rattle.field.proofs.XorLaws.{xor-zero}
 use Rattle.field.proofs.XorSumLaws.{xorsum-cong}
@@ -19,7 +19,9 @@ use Rattle.codes.proofs.WordLaws.{bit-shift}
 use Rattle.codes.proofs.RootLaws.{product-lt}
 use Rattle.codes.proofs.ShortForm.{cell-is-short}
 use Rattle.search.specs.Search.{symbol}
+use Rattle.search.specs.ByRank.{xorBits}
 use Rattle.search.proofs.SymbolLaws.{symbol-bits}
+use Rattle.search.proofs.RankBits.{xor-bits-sum}
 use Rattle.prepare.specs.Inner.Table.{pointSpread, pointCell, rowSum}
 
 module _ (m : ℕ) (points : List ℕ) (size : ℕ) where
@@ -54,24 +56,22 @@ module _ (m : ℕ) (points : List ℕ) (size : ℕ) where
 
 module _ (symbols : List ℕ) (bits q : ℕ) where
   pub sum-none : 0 ≡ rowSum symbols bits 0 q
-  unfolding rowSum xorSum
+  unfolding rowSum xorBits
   sum-none = refl
 
   pub sum-skip : (j : ℕ) → bits / 2 ^ j % 2 ≢ 1 → rowSum symbols bits j q ≡ rowSum symbols bits (j + 1) q
-  unfolding rowSum xorSum bitTimes
+  unfolding rowSum xorBits
   sum-skip j ne = rw add-one (go (bitOf bits j) (omega (arith, bit-shift bits j)))
     where
-      go : (x : ℕ) → x ≡ 0 → rowSum symbols bits j q ≡ rowSum symbols bits j q ⊕ bitTimes x (getD symbols (q * 63 + j) 0)
-      go zero e = sym (xor-zero _)
-      go (suc x) e = absurd (omega arith)
+      go : (x : ℕ) → x ≡ 0 → rowSum symbols bits j q ≡ rowSum symbols bits j q ⊕ x * getD symbols (q * 63 + j) 0
+      go x e = sym (ap (λ (u : ℕ). rowSum symbols bits j q ⊕ u * getD symbols (q * 63 + j) 0) e ∙ rw zero-mul (xor-zero _))
 
   pub sum-take : (j : ℕ) → bits / 2 ^ j % 2 ≡ 1 → rowSum symbols bits j q ⊕ getD symbols (q * 63 + j) 0 ≡ rowSum symbols bits (j + 1) q
-  unfolding rowSum xorSum bitTimes
+  unfolding rowSum xorBits
   sum-take j e = rw add-one (go (bitOf bits j) (omega (arith, bit-shift bits j)))
     where
-      go : (x : ℕ) → x ≡ 1 → rowSum symbols bits j q ⊕ getD symbols (q * 63 + j) 0 ≡ rowSum symbols bits j q ⊕ bitTimes x (getD symbols (q * 63 + j) 0)
-      go zero e = absurd (omega arith)
-      go (suc x) e = refl
+      go : (x : ℕ) → x ≡ 1 → rowSum symbols bits j q ⊕ getD symbols (q * 63 + j) 0 ≡ rowSum symbols bits j q ⊕ x * getD symbols (q * 63 + j) 0
+      go x e = sym (ap (λ (u : ℕ). rowSum symbols bits j q ⊕ u * getD symbols (q * 63 + j) 0) e ∙ rw one-mul refl)
 
 others-cong : (X Y : ℕ → ℕ) (k o : ℕ) → ((v : ℕ) → v < k → X v ≡ Y v) → others X k o ≡ others Y k o
 unfolding others
@@ -103,4 +103,4 @@ module _ (m : ℕ) (F : Laws m) (r : ℕ) (R : ℕ → ℕ) (ord : AllPlaces m R
       → ((j : ℕ) → j < K → bitOf bits j ≡ bitOf v (R j)) → rowSum symbols bits K q ≡ symbol m 1 r R v (U q)
   unfolding rowSum
   symbol-is symbols bits v q hq cells same =
-      xorsum-cong K _ _ (λ j l. ap₂ bitTimes (same j l) (cells j l ∙ cell-is q j hq l)) ∙ sym (symbol-bits m F 1 r R v (U q))
+      xor-bits-sum _ K bits ∙ xorsum-cong K _ _ (λ j l. ap₂ _*_ (same j l) (cells j l ∙ cell-is q j hq l)) ∙ sym (symbol-bits m F 1 r R v (U q))

@@ -3,14 +3,14 @@
 use mathlib.Core.Path.{_≡_, refl, sym, ap, _∙_}
 use mathlib.Core.Logic.{_↔_, _⊎_, inl, inr, ⊎-elim, by-cases}
 use mathlib.Core.List.{List, [], _∷_}
-use Prim.Native.Nat.{ℕ, zero, suc, _+_, _-_, _*_, _/_, _%_, _^_, _<_, _≤_}
-use native.Mathlib.Nat.{div-lt-iff-lt-mul, div-eq-of-lt, mod-lt, zero-lt-suc}
+use Prim.Native.Nat.{ℕ, zero, suc, _+_, _-_, _*_, _/_, _%_, _^_, _≤_}
+use native.Mathlib.Nat.{div-eq-of-lt, mod-lt, zero-lt-suc}
 use native.Mathlib.Decide.{ℕ-discrete}
 use native.Mathlib.Omega.{arith}
 use lib.ListN.{length}
-use lib.Pow.{shr-shr, pow-pos}
+use lib.Pow.{shr-shr}
 use Rattle.field.specs.Field.{lengthOf}
-use Rattle.codes.proofs.WordLaws.{bit-shift}
+use Rattle.codes.proofs.WordLaws.{bit-shift, below-div}
 use Rattle.search.specs.Candidate.{Member, NoRepeats}
 use Rattle.search.specs.Search.{patterns}
 use Rattle.search.specs.ByRank.{sumBits}
@@ -101,7 +101,7 @@ patterns-listed m r tau = (
   listed K tau 0 [],
   listed-once K tau 0 [] tt (λ g l x. x),
   (λ f. (
-    λ h. ⊎-elim (λ x. absurd x) (λ l. record { ranks = in-range f (l .above); few = l .few }) (listed→ K tau 0 [] f h),
+    λ h. ⊎-elim (λ x. absurd x) (λ l. record { ranks = below-div f K (l .above); few = l .few }) (listed→ K tau 0 [] f h),
     λ p. listed← K tau 0 [] f (inr (record { above = div-eq-of-lt (p .ranks); few = p .few })),
   )),
   listed-length K tau 0 [] ∙ omega arith,
@@ -109,6 +109,3 @@ patterns-listed m r tau = (
   where
     K : ℕ
     K = lengthOf m - r
-
-    in-range : (f : ℕ) → f / 2 ^ K ≡ 0 → f < 2 ^ K
-    in-range f e = let h : f < 1 * 2 ^ K = div-lt-iff-lt-mul (pow-pos K) .0 (omega arith) in omega arith

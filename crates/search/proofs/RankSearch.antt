@@ -17,7 +17,7 @@ use Rattle.field.proofs.TestLaws.{below, all-cong, ne→not, not-eqb}
 use Rattle.field.proofs.TotalLaws.{only-yes, only-no, total-cong}
 use Rattle.field.proofs.XorLaws.{xor-zero, zero-xor, xor-self, xor-assoc, xor-comm, xor-lt}
 use Rattle.field.proofs.XorSumLaws.{xorsum-cong, xorsum-xor}
-use Rattle.field.proofs.RingLaws.{zero-times, xor-over}
+use Rattle.field.proofs.RingLaws.{xor-over}
 use Rattle.codes.specs.Word.{bitOf, wordOf}
 use Rattle.codes.specs.Lagrange.{AllPlaces, cell, lagrange}
 use Rattle.codes.proofs.WordLaws.{bit-lt, bit-xor, bit-high, bit-ext, bit-word, word-lt}
@@ -29,7 +29,7 @@ use Rattle.search.specs.Search.{weighed, bestOver, symbol, binary, compl
 use Rattle.search.specs.Plan.{Plan, Prepares}
 use Rattle.search.specs.ByRank.{xorBits, sumBits, rankSymbol, rankBinary, outside, differing, rankWeighed, seenIf, tried, rankSearched}
 use Rattle.search.proofs.SearchSteps.{search-same}
-use Rattle.search.proofs.SymbolLaws.{cell-lt, kept}
+use Rattle.search.proofs.SymbolLaws.{cell-lt, bit-product, kept}
 use Rattle.search.proofs.BestIsNearest.{hard-lt}
 use Rattle.search.proofs.BitSumLaws.{xor-flip, xor-none}
 use Rattle.search.proofs.RankBits.{bit-moved-low, bit-moved, outside-bit, spread-at, spread-lt, sum-bits-total, xor-bits-sum}
@@ -94,14 +94,9 @@ module _ (m b r : ℕ) (soft : List ℤ) (p : Plan) (P : Prepares m b r soft p) 
     symbol-flipped q =
         xorsum-cong K _ (λ j. times m (bitOf (p .hards) (R j)) (cell m (1 - b) R K j q) ⊕ bitOf f j * cell m (1 - b) R K j q)
         (λ j l. ap (λ (u : ℕ). times m u (cell m (1 - b) R K j q)) (flipped-bit j l) ∙ xor-over m F (bitOf (p .hards) (R j)) (bitOf f j) (cell m (1 - b) R K j q)
-        ∙ ap (λ (u : ℕ). times m (bitOf (p .hards) (R j)) (cell m (1 - b) R K j q) ⊕ u) (scaled (bitOf f j) (bit-lt f j) (cell m (1 - b) R K j q) (cell-lt m F b r R j q)))
+        ∙ ap (λ (u : ℕ). times m (bitOf (p .hards) (R j)) (cell m (1 - b) R K j q) ⊕ u) (bit-product m F b r R (bitOf f j) (bit-lt f j) (cell m (1 - b) R K j q) (cell-lt m F b r R j q)))
         ∙ xorsum-xor K (λ j. times m (bitOf (p .hards) (R j)) (cell m (1 - b) R K j q)) (λ j. bitOf f j * cell m (1 - b) R K j q)
         ∙ ap (λ (u : ℕ). xorSum K (λ j. times m (bitOf (p .hards) (R j)) (cell m (1 - b) R K j q)) ⊕ u) (sym (xor-bits-sum (λ j. cell m (1 - b) R K j q) K f))
-      where
-        scaled : (x : ℕ) → x < 2 → (y : ℕ) → y < 2 ^ m → times m x y ≡ x * y
-        scaled zero l y k = zero-times m F y ∙ omega arith
-        scaled (suc zero) l y k = F .comm 1 y ∙ F .one y k ∙ omega arith
-        scaled (suc (suc x)) l y k = absurd (omega arith)
 
     row-symbol : (q : ℕ) → q < r → symbol m b r R v (R (K + q)) ≡ rankSymbol p f q
     unfolding rankSymbol

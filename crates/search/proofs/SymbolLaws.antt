@@ -1,8 +1,8 @@
 -- A pattern's symbol: the sum of the cells at the bits that are set, and at a reliable rank the bit itself. Assumes nothing.
 use mathlib.Core.Path.{_≡_, _∙_}
-use Prim.Native.Nat.{ℕ, zero, suc, _-_, _^_, _<_, _≤_}
+use Prim.Native.Nat.{ℕ, zero, suc, _-_, _^_, _<_, _≤_, _*_}
 use native.Mathlib.Omega.{arith}
-use Rattle.field.specs.Field.{xorSum, times, lengthOf, bitTimes}
+use Rattle.field.specs.Field.{xorSum, times, lengthOf}
 use Rattle.field.specs.Laws.{Laws}
 use Rattle.field.proofs.XorSumLaws.{xorsum-cong}
 use Rattle.field.proofs.RingLaws.{zero-times}
@@ -23,15 +23,16 @@ module _ (m : ℕ) (F : Laws m) (b r : ℕ) (R : ℕ → ℕ) where
   unfolding cell
   cell-lt j p = times-lt _ _
 
+  -- the product with a bit
+  pub bit-product : (x : ℕ) → x < 2 → (y : ℕ) → y < 2 ^ m → times m x y ≡ x * y
+  bit-product zero l y h = zero-times m F y ∙ omega arith
+  bit-product (suc zero) l y h = comm 1 y ∙ one y h ∙ omega arith
+  bit-product (suc (suc x)) l y h = absurd (omega arith)
+
   -- "the sum, over reliable positions j whose bit is 1"
-  pub symbol-bits : (v p : ℕ) → symbol m b r R v p ≡ xorSum K (λ j. bitTimes (bitOf v (R j)) (cell m (1 - b) R K j p))
-  unfolding symbol lagrange bitTimes
-  symbol-bits v p = xorsum-cong K _ _ (λ j _. go (bitOf v (R j)) (bit-lt v (R j)) (cell m (1 - b) R K j p) (cell-lt j p))
-    where
-      go : (x : ℕ) → x < 2 → (y : ℕ) → y < 2 ^ m → times m x y ≡ bitTimes x y
-      go zero l y h = zero-times m F y
-      go (suc zero) l y h = comm 1 y ∙ one y h
-      go (suc (suc x)) l y h = absurd (omega arith)
+  pub symbol-bits : (v p : ℕ) → symbol m b r R v p ≡ xorSum K (λ j. bitOf v (R j) * cell m (1 - b) R K j p)
+  unfolding symbol lagrange
+  symbol-bits v p = xorsum-cong K _ _ (λ j _. bit-product (bitOf v (R j)) (bit-lt v (R j)) (cell m (1 - b) R K j p) (cell-lt j p))
 
   module _ (ord : AllPlaces m R) (fit : r ≤ lengthOf m) where
     -- at a reliable rank it is the bit there

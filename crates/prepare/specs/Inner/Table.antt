@@ -10,8 +10,8 @@ use mathlib.Core.Path.{_≡_}
 use mathlib.Core.List.{List}
 use Prim.Native.Nat.{ℕ, _+_, _*_, _^_, _<_, _≤_}
 use lib.ListN.{length, getD}
-use Rattle.field.specs.Field.{xorSum, bitTimes, times, inverseOf}
-use Rattle.codes.specs.Word.{bitOf}
+use Rattle.field.specs.Field.{times, inverseOf}
+use Rattle.search.specs.ByRank.{xorBits}
 use Rattle.codes.specs.Lagrange.{others, productOver}
 
 pub record Points (m : ℕ) (points : List ℕ) (size rows : ℕ) : Type 0 where
@@ -37,7 +37,7 @@ module _ (m : ℕ) (points : List ℕ) (size rows : ℕ) where
     pub cells : (o : ℕ) → o < k → Cells o size l
 
 unfoldable pub rowSum : List ℕ → ℕ → ℕ → ℕ → ℕ
-rowSum symbols bits size q = xorSum size (λ j. bitTimes (bitOf bits j) (getD symbols (q * 63 + j) 0))
+rowSum symbols bits size q = xorBits (λ j. getD symbols (q * 63 + j) 0) size bits
 
 abbrev pub RowSums : List ℕ → ℕ → ℕ → ℕ → List ℕ → Type 0
 RowSums symbols bits size k l = (q : ℕ) → q < k → getD l q 0 ≡ rowSum symbols bits size q
