@@ -1,6 +1,7 @@
 pub mod Candidate
 pub mod Best
 pub mod Search
+pub mod Positions
 pub mod Plan
 pub mod ByRank
 pub mod Pattern
