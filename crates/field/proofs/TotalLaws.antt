@@ -1,5 +1,5 @@
 -- Sums and counts over the numbers below n: term by term, two at once, in another order. Assumes nothing.
-use mathlib.Core.Path.{_≡_, refl, sym, ap, ap₂, _∙_}
+use mathlib.Core.Path.{_≡_, refl, sym, ap, ap₂, _∙_, subst}
 use mathlib.Core.Logic.{_≢_, ⊎-elim, by-cases}
 use mathlib.Core.Bool.{Bool, true, false}
 use Prim.Native.Nat.{ℕ, zero, suc, _+_, _<_, _≤_, min}
@@ -19,6 +19,10 @@ pub only-no : (b : Bool) (x : ℕ) → (T b → ⊥) → only b x ≡ 0
 only-no true x t = absurd (t tt)
 only-no false x t = refl
 
+pub only-le : (a b : Bool) (x : ℕ) → (T a → T b) → only a x ≤ only b x
+only-le true b x f = let e = only-yes b x (f tt) in omega arith
+only-le false b x f = omega arith
+
 -- totals
 pub total-suc : (n : ℕ) (f : ℕ → ℕ) → total (suc n) f ≡ total n f + f n
 unfolding total
@@ -33,6 +37,19 @@ pub total-le : (n : ℕ) (f g : ℕ → ℕ) → ((p : ℕ) → p < n → f p �
 unfolding total
 total-le zero f g h = le-refl 0
 total-le (suc n) f g h = omega (arith, total-le n f g (λ p l. h p (omega arith)), h n (omega arith))
+
+pub total-lt : (n : ℕ) (f g : ℕ → ℕ) (u : ℕ) → u < n → ((p : ℕ) → p < n → f p ≤ g p) → f u < g u → total n f < total n g
+unfolding total
+total-lt zero f g u l h s = absurd (omega arith)
+total-lt (suc n) f g u l h s =
+    ⊎-elim (λ e. let s′ : f n < g n = subst (λ (x : ℕ). f x < g x) e s in omega (arith, total-le n f g (λ p k. h p (omega arith))))
+    (λ k. omega (arith, total-lt n f g u k (λ p j. h p (omega arith)) s, h n (omega arith)))
+    (eq-or-lt-of-le (le-of-suc-le-suc l))
+
+pub total-ones : (n : ℕ) → total n (λ p. 1) ≡ n
+unfolding total
+total-ones zero = refl
+total-ones (suc n) = omega (arith, total-ones n)
 
 pub total-zero : (n : ℕ) (f : ℕ → ℕ) → ((p : ℕ) → p < n → f p ≡ 0) → total n f ≡ 0
 unfolding total

@@ -1,4 +1,5 @@
 pub mod CountLaws
+pub mod PositionLaws
 pub mod SearchSteps
 pub mod SymbolLaws
 pub mod EveryCandidateSeen

@@ -1,6 +1,6 @@
 -- The order of positions: which of two comes first, and that the rank of the position that an order has at i is i. Assumes nothing.
 use mathlib.Core.Path.{_≡_, sym, ap, _∙_, subst}
-use mathlib.Core.Logic.{_↔_, _⊎_, ⊎-elim, by-cases}
+use mathlib.Core.Logic.{_≢_, _↔_, _⊎_, inl, inr, ⊎-elim, by-cases}
 use mathlib.Core.Bool.{Bool}
 use mathlib.Core.List.{List}
 use Prim.Native.Nat.{ℕ, _-_, _<_}
@@ -28,6 +28,18 @@ module _ (soft : List ℤ) where
   before-not-both p q a b =
       ⊎-elim (λ x. ⊎-elim (λ y. omega arith) (λ y. omega arith) (before-says q p .0 b)) (λ x. ⊎-elim (λ y. omega arith) (λ y. omega arith) (before-says q p .0 b))
       (before-says p q .0 a)
+
+  pub before-one : (p q : ℕ) → p ≢ q → T (before soft p q) ⊎ T (before soft q p)
+  before-one p q d =
+      by-cases (decLt (rel q) (rel p)) (λ l. inl (before-says p q .1 (inl l)))
+      (λ a. by-cases (decLt (rel p) (rel q)) (λ l. inr (before-says q p .1 (inl l)))
+      (λ b. by-cases (decLt p q) (λ l. inl (before-says p q .1 (inr (omega arith, l)))) (λ c. inr (before-says q p .1 (inr (omega arith, omega arith))))))
+
+  pub before-trans : (p q s : ℕ) → T (before soft p q) → T (before soft q s) → T (before soft p s)
+  before-trans p q s a b = before-says p s .1 (⊎-elim
+      (λ x. ⊎-elim (λ y. inl (omega arith)) (λ y. inl (omega arith)) (before-says q s .0 b))
+      (λ x. ⊎-elim (λ y. inl (omega arith)) (λ y. inr (omega arith, omega arith)) (before-says q s .0 b))
+      (before-says p q .0 a))
 
   pub before-not-self : (p : ℕ) → T (before soft p p) → ⊥
   before-not-self p t = before-not-both p p t t
