@@ -1,0 +1,4 @@
+pub mod SmallestLaws
+pub mod SentIsNearest
+pub mod ClaimsShown
+pub mod Anchors
