@@ -1,7 +1,9 @@
 // The three calls for C hosts: numbers and lent memory in, a refusal's number out.
+ghost use mathlib.Core.Path.{_≡_};
 ghost use mathlib.Core.List.{[], _∷_};
+ghost use lib.ListN.{set};
 ghost use Rattle.codec.specs.Encode.{EncodeAnswers};
-ghost use Rattle.export.specs.Told.{Told, DecodeTold, ReadTold};
+ghost use Rattle.export.specs.Told.{told, DecodeTold, ReadTold};
 ghost use Rattle.export.specs.Inner.Narrow.{Narrows};
 
 // The largest number that the calls take.
@@ -17,29 +19,58 @@ fn narrow(x: u32) -> u16
     x as u16
 }
 
-// Writes distance, flips and candidates into the first three figures, where there are as many.
-fn tell_figures(distance: u16, flips: u8, candidates: u32, figures: &mut [u32])
-    ensures { λ _. ⌜ Told (distance ∷ flips ∷ candidates ∷ []) (now (figures .entry)) (now (figures .exit)) ⌝ }
+// Writes a number into a place of the figures, where there is that place.
+fn put(number: u32, place: usize, figures: &mut [u32])
+    ensures { λ _. ⌜ now (figures .exit) ≡ set (now (figures .entry)) place number ⌝ }
 {
-    if figures.len() < 3 {
-        return;
+    if place < figures.len() {
+        figures[place] = number;
     }
-    figures[0] = distance as u32;
-    figures[1] = flips as u32;
-    figures[2] = candidates;
 }
 
-// Writes the message into the first place, where there is one.
-fn tell_message(message: u64, place: &mut [u64])
-    ensures { λ _. ⌜ Told (message ∷ []) (now (place .entry)) (now (place .exit)) ⌝ }
+// Writes distance, flips and candidates, as many as there is room for; on a refusal none.
+fn tell_figures(refusal: u8, distance: u16, flips: u8, candidates: u32, figures: &mut [u32])
+    ensures { λ _. ⌜ now (figures .exit) ≡ told refusal (distance ∷ flips ∷ candidates ∷ []) (now (figures .entry)) ⌝ }
 {
-    if place.len() < 1 {
+    if 0 < refusal {
         return;
     }
-    place[0] = message;
+    put(distance as u32, 0, figures);
+    put(flips as u32, 1, figures);
+    put(candidates, 2, figures);
 }
 
-// Decodes into the buffer, and tells of the word in the figures.
+// Writes the message into the first place, where there is one; on a refusal nothing.
+fn tell_message(refusal: u8, number: u64, message: &mut [u64])
+    ensures { λ _. ⌜ now (message .exit) ≡ told refusal (number ∷ []) (now (message .entry)) ⌝ }
+{
+    if 0 < refusal {
+        return;
+    }
+    if 0 < message.len() {
+        message[0] = number;
+    }
+}
+
+// Encodes a message into the word.
+#[no_mangle]
+pub extern "C" fn malligovu_encode(m: u32, t: u32, s: u32, message: u64, word: &mut [u8]) -> u32
+    ensures { λ r. ⌜ EncodeAnswers m t s message (now (word .entry)) r (now (word .exit)) ⌝ }
+{
+    codec::encode(narrow(m), narrow(t), narrow(s), message, word) as u32
+}
+
+// Reads the word, and tells its message.
+#[no_mangle]
+pub extern "C" fn malligovu_read(m: u32, t: u32, s: u32, word: &[u8], message: &mut [u64]) -> u32
+    ensures { λ r. ⌜ ReadTold m t s (now (word .entry)) (now (message .entry)) r (now (message .exit)) ⌝ }
+{
+    let reading = codec::read(narrow(m), narrow(t), narrow(s), word);
+    tell_message(reading.refusal, reading.message, message);
+    reading.refusal as u32
+}
+
+// Decodes the soft values into the word, and tells of it in the figures.
 #[no_mangle]
 pub extern "C" fn malligovu_decode(
     m: u32,
@@ -47,30 +78,18 @@ pub extern "C" fn malligovu_decode(
     s: u32,
     order: u32,
     soft: &[i8],
-    buffer: &mut [u8],
+    word: &mut [u8],
     figures: &mut [u32],
-) -> u8
-    ensures { λ r. ⌜ DecodeTold m t s order (now (soft .entry)) (now (buffer .entry)) (now (figures .entry)) r (now (buffer .exit)) (now (figures .exit)) ⌝ }
+) -> u32
+    ensures { λ r. ⌜ DecodeTold m t s order (now (soft .entry)) (now (word .entry)) (now (figures .entry)) r (now (word .exit)) (now (figures .exit)) ⌝ }
 {
-    let answer = decode::decode(narrow(m), narrow(t), narrow(s), narrow(order), soft, buffer);
-    tell_figures(answer.distance, answer.flips, answer.candidates, figures);
-    answer.refusal
-}
-
-// Encodes into the buffer.
-#[no_mangle]
-pub extern "C" fn malligovu_encode(m: u32, t: u32, s: u32, message: u64, buffer: &mut [u8]) -> u8
-    ensures { λ r. ⌜ EncodeAnswers m t s message (now (buffer .entry)) r (now (buffer .exit)) ⌝ }
-{
-    codec::encode(narrow(m), narrow(t), narrow(s), message, buffer)
-}
-
-// Reads the word in the bytes, and tells its message in the place.
-#[no_mangle]
-pub extern "C" fn malligovu_read(m: u32, t: u32, s: u32, bytes: &[u8], place: &mut [u64]) -> u8
-    ensures { λ r. ⌜ ReadTold m t s (now (bytes .entry)) (now (place .entry)) r (now (place .exit)) ⌝ }
-{
-    let answer = codec::read(narrow(m), narrow(t), narrow(s), bytes);
-    tell_message(answer.message, place);
-    answer.refusal
+    let decoding = decode::decode(narrow(m), narrow(t), narrow(s), narrow(order), soft, word);
+    tell_figures(
+        decoding.refusal,
+        decoding.distance,
+        decoding.flips,
+        decoding.candidates,
+        figures,
+    );
+    decoding.refusal as u32
 }

@@ -24,6 +24,9 @@ decode-requires c κs = search needs
 tell-figures-requires : tie.Need-tell-figures-requires
 tell-figures-requires c κs = search needs
 
+cast-result : tie.Need-cast-result
+cast-result c = search needs
+
 same-length : tie.Need-same-length
 same-length c = search needs
 
@@ -32,13 +35,15 @@ same-length-2 c = search needs
 
 returns : tie.Need-returns
 returns c =
-    let a = c .before .before .before .before .before .before .before .before .before .before .before .before .before .before .args in
+    let d = c .before .before .before .before .before .before .before in
+    let n = d .before .before in
+    let a = n .before .before .before .before .before .before .args in
     record {
-      answer = c .before .before .before .before .before .before .decode .result;
+      answer = d .decode .result;
       answers =
-          decode-narrow (c .before .before .before .before .before .before .before .before .before .before .before .narrow .ensures) (c .before .before .before .before .before .before .before .before .before .before .narrow2 .ensures) (c .before .before .before .before .before .before .before .before .before .narrow3 .ensures) (c .before .before .before .before .before .before .before .before .narrow4 .ensures) (now (a .soft)) (now (a .buffer)) (c .before .before .before .before .before .before .decode .ensures);
+          decode-narrow (n .before .before .before .narrow .ensures) (n .before .before .narrow2 .ensures) (n .before .narrow3 .ensures) (n .narrow4 .ensures) (now (a .soft)) (now (a .word)) (d .decode .ensures);
       refusal = refl;
-      tells = c .before .before .tell-figures .ensures;
+      tells = c .before .before .before .tell-figures .ensures;
     }
 
 pub malligovu-decode-spec : {M : Type 1} → statement M
@@ -51,6 +56,7 @@ malligovu-decode-spec =
     narrow-requires-4
     decode-requires
     tell-figures-requires
+    cast-result
     same-length
     same-length-2
     returns)

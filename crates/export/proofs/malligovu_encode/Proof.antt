@@ -17,13 +17,17 @@ narrow-requires-3 c κs = search needs
 encode-requires : tie.Need-encode-requires
 encode-requires c κs = search needs
 
+cast-result : tie.Need-cast-result
+cast-result c = search needs
+
 same-length : tie.Need-same-length
 same-length c = search needs
 
 returns : tie.Need-returns
 returns c =
-    let a = c .before .before .before .before .before .before .before .before .args in
-    encode-narrow (c .before .before .before .before .before .before .narrow .ensures) (c .before .before .before .before .before .narrow2 .ensures) (c .before .before .before .before .narrow3 .ensures) (a .message) (now (a .buffer))
+    let n = c .before .before .before .before in
+    let a = n .before .before .before .before .args in
+    encode-narrow (n .before .before .narrow .ensures) (n .before .narrow2 .ensures) (n .narrow3 .ensures) (a .message) (now (a .word))
     (c .before .before .encode .ensures)
 
 pub malligovu-encode-spec : {M : Type 1} → statement M
@@ -34,5 +38,6 @@ malligovu-encode-spec =
     narrow-requires-2
     narrow-requires-3
     encode-requires
+    cast-result
     same-length
     returns)

@@ -21,18 +21,22 @@ read-requires c κs = search needs
 tell-message-requires : tie.Need-tell-message-requires
 tell-message-requires c κs = search needs
 
+cast-result : tie.Need-cast-result
+cast-result c = search needs
+
 same-length : tie.Need-same-length
 same-length c = search needs
 
 returns : tie.Need-returns
 returns c =
-    let a = c .before .before .before .before .before .before .before .before .before .before .args in
+    let r = c .before .before .before .before .before in
+    let n = r .before in
     record {
-      answer = c .before .before .before .before .read .result;
+      answer = r .read .result;
       answers =
-          read-narrow (c .before .before .before .before .before .before .before .narrow .ensures) (c .before .before .before .before .before .before .narrow2 .ensures) (c .before .before .before .before .before .narrow3 .ensures) (now (a .bytes)) (c .before .before .before .before .read .ensures);
+          read-narrow (n .before .before .narrow .ensures) (n .before .narrow2 .ensures) (n .narrow3 .ensures) (now (n .before .before .before .before .before .args .word)) (r .read .ensures);
       refusal = refl;
-      tells = c .before .before .tell-message .ensures;
+      tells = c .before .before .before .tell-message .ensures;
     }
 
 pub malligovu-read-spec : {M : Type 1} → statement M
@@ -44,5 +48,6 @@ malligovu-read-spec =
     narrow-requires-3
     read-requires
     tell-message-requires
+    cast-result
     same-length
     returns)
