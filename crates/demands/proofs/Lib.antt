@@ -1,2 +1,11 @@
+pub mod OursAnswer
+pub mod ContractsMeetDemands
+pub mod DemandsAreContracts
+pub mod SecondGivesThird
+pub mod Computing
+pub mod SettledWords
 pub mod SettledShown
+pub mod AtEquality
+pub mod RejectedShown
+pub mod CompiledCalls
 pub mod Theorems

@@ -1,4 +1,5 @@
--- Every claim by its name, with what proves it: the checked table of theorems. Assumes nothing.
+-- Every claim by its name, with what proves it: the checked table of theorems, from the demands through the compiled functions down to the
+-- fields and codes. Assumes nothing.
 use mathlib.Core.List.{List}
 use Prim.Native.Nat.{ℕ}
 use lib.IntN.{ℤ}
@@ -11,16 +12,84 @@ use Rattle.soft.proofs.OrderLaws as order
 use Rattle.soft.proofs.DistanceLaws as distance
 use Rattle.search.specs.Claims.{PatternsAreCounted, PatternsAreBinomials, EveryCandidateHasOnePattern, BinaryPatternsAreCandidates, BestIsNearest, CandidatesAreCounted, NothingIsMissed}
 use Rattle.search.proofs.ClaimsShown as search-shown
+use Rattle.sent.specs.Claims.{SmallestAreLeast, OthersAreFarther, SentIsNearest}
+use Rattle.sent.proofs.ClaimsShown as sent-shown
 use Rattle.frame.proofs.PackedBits.{packed-bit}
 use Rattle.codec.proofs.CodecOneAnswer as codec
 use Rattle.codec.proofs.RoundTrip as trip
+use Rattle.codec.proofs.encode.Statement as encode-stated
+use Rattle.codec.proofs.encode.Met as encode-met
+use Rattle.codec.proofs.read.Statement as read-stated
+use Rattle.codec.proofs.read.Met as read-met
 use Rattle.decode.proofs.DecodeOneAnswer as decode
+use Rattle.decode.proofs.decode.Statement as decode-stated
+use Rattle.decode.proofs.decode.Met as decode-met
 use Rattle.export.proofs.ToldOneAnswer as told
+use Rattle.demands.specs.Demands.{ContractsMeetDemands, OursMeetDemands, DemandsAreContracts, NothingElseMeetsThem, SecondGivesThird, EqualityIsNotPromised}
+use Rattle.demands.specs.Ours.{ours}
+use Rattle.demands.specs.Rejected.{WrongVersionsAreRejected}
+use Rattle.demands.specs.Wrong.{WrongVersionsExist}
+use Rattle.demands.specs.Settled.{settled, Each}
 use Rattle.demands.specs.OneAnswer.{EncodeHasOneAnswer, ReadHasOneAnswer, DecodeHasOneAnswer, DecodeTellsOneAnswer, ReadTellsOneAnswer}
 use Rattle.demands.specs.Packed.{BitsArePacked}
 use Rattle.demands.specs.BringsBack.{ReadBringsBack, EncodeWritesAgain}
-use Rattle.demands.specs.Settled.{settled, Each}
+use Rattle.demands.proofs.OursAnswer.{ours-answer}
+use Rattle.demands.proofs.ContractsMeetDemands.{meets-first, meets-second}
+use Rattle.demands.proofs.DemandsAreContracts.{contracts-kept, encode-as-ours, read-as-ours, decode-as-ours}
+use Rattle.demands.proofs.SecondGivesThird as third
+use Rattle.demands.proofs.CompiledCalls as compiled
+use Rattle.demands.proofs.CompiledCalls.{EncodeIsOurs, ReadIsOurs, DecodeIsOurs}
+use Rattle.demands.proofs.AtEquality.{equality-shown}
+use Rattle.demands.proofs.RejectedShown as wrong
 use Rattle.demands.proofs.SettledShown as shown
+
+-- the demands: whatever keeps the contracts meets them, ours do, and nothing else does
+pub second-gives-third : SecondGivesThird
+second-gives-third = third.second-gives-third
+
+pub contracts-meet-demands : ContractsMeetDemands
+contracts-meet-demands x h = record { first = meets-first x h; second = meets-second x h; third = second-gives-third x (meets-second x h) }
+
+pub ours-meet-demands : OursMeetDemands
+ours-meet-demands = contracts-meet-demands ours ours-answer
+
+pub demands-are-contracts : DemandsAreContracts
+demands-are-contracts = contracts-kept
+
+pub nothing-else-meets-them : NothingElseMeetsThem
+nothing-else-meets-them x first second = (encode-as-ours x first second, read-as-ours x first second, decode-as-ours x first second)
+
+pub equality-is-not-promised : EqualityIsNotPromised
+equality-is-not-promised = equality-shown
+
+-- the compiled functions meet their contracts, and so ask nothing and give back what ours give
+pub encode-meets-its-contract : {M : Type 1} → encode-stated.statement M
+encode-meets-its-contract = encode-met.met
+
+pub read-meets-its-contract : {M : Type 1} → read-stated.statement M
+read-meets-its-contract = read-met.met
+
+pub decode-meets-its-contract : {M : Type 1} → decode-stated.statement M
+decode-meets-its-contract = decode-met.met
+
+pub encode-is-ours : EncodeIsOurs
+encode-is-ours = compiled.encode-is-ours
+
+pub read-is-ours : ReadIsOurs
+read-is-ours = compiled.read-is-ours
+
+pub decode-is-ours : DecodeIsOurs
+decode-is-ours = compiled.decode-is-ours
+
+-- the wrong versions and the settled examples
+pub wrong-versions-are-rejected : WrongVersionsAreRejected
+wrong-versions-are-rejected = wrong.rejected-shown
+
+pub wrong-versions-exist : WrongVersionsExist
+wrong-versions-exist = wrong.wrong-exist
+
+pub settled-examples : Each settled
+settled-examples = shown.settled-shown
 
 -- the fields and the codes
 pub fields-are-lawful : FieldsAreLawful
@@ -77,7 +146,18 @@ module _ (m b r tau : ℕ) (soft : List ℤ) (R : ℕ → ℕ) where
   pub nothing-is-missed : NothingIsMissed m b r tau soft R
   nothing-is-missed = search-shown.nothing-is-missed m b r tau soft R
 
--- the calls
+-- a word that was sent
+pub smallest-are-least : SmallestAreLeast
+smallest-are-least = sent-shown.smallest-are-least
+
+module _ (m b r tau : ℕ) (soft : List ℤ) (c : ℕ) where
+  pub others-are-farther : OthersAreFarther m b r tau soft c
+  others-are-farther = sent-shown.others-are-farther m b r tau soft c
+
+  pub sent-is-nearest : SentIsNearest m b r tau soft c
+  sent-is-nearest = sent-shown.sent-is-nearest m b r tau soft c
+
+-- the calls' contracts
 pub bits-are-packed : BitsArePacked
 bits-are-packed = packed-bit
 
@@ -101,6 +181,3 @@ read-brings-back = trip.encode-then-read
 
 pub encode-writes-again : EncodeWritesAgain
 encode-writes-again = trip.read-then-encode
-
-pub settled-examples : Each settled
-settled-examples = shown.settled-shown

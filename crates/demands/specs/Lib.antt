@@ -1,4 +1,14 @@
+pub mod Calls
+pub mod Demand1
+pub mod Nearest
+pub mod Demand2
+pub mod Demand3
+pub mod Ours
+pub mod SettledCalls
+pub mod Demands
+pub mod Rejected
+pub mod Wrong
+pub mod Settled
 pub mod Packed
 pub mod OneAnswer
 pub mod BringsBack
-pub mod Settled

@@ -1,0 +1,115 @@
+-- Whatever keeps the contracts of the three calls meets demands 1 and 2. Assumes nothing.
+use mathlib.Core.Path.{_≡_, refl, sym, ap, _∙_, subst}
+use mathlib.Core.Logic.{inl, inr}
+use mathlib.Core.List.{List}
+use Prim.Native.Nat.{ℕ, _*_}
+use lib.ListN.{length}
+use Rattle.codes.proofs.SystematicWord.{codeword-high}
+use Rattle.search.specs.Candidate.{Candidate}
+use Rattle.frame.specs.Refusal.{encodeRefusal, readRefusal}
+use Rattle.frame.proofs.RefusalLaws.{encode-known}
+use Rattle.codec.specs.Encode.{EncodeAnswers, refused, encoded}
+use Rattle.codec.specs.Read.{ReadAnswers, says}
+use Rattle.codec.specs.declared.Reading.{Reading}
+use Rattle.codec.proofs.RoundTrip.{encode-then-read}
+use Rattle.decode.specs.Decode.{DecodeAnswers}
+use Rattle.decode.specs.Called.{Call, Result, checksOf}
+use Rattle.demands.specs.Calls.{Encoding, Calls, Contracts}
+use Rattle.demands.specs.Demand1.{EncodeFixed, ReadFixed, DecodeFixed, Demand1}
+use Rattle.demands.specs.Nearest.{Among, Decodes}
+use Rattle.demands.specs.Demand2.{Encodes, Reads, Demand2}
+
+module _ (m t s message : ℕ) (before : List ℕ) (y : Encoding) where
+  encode-fixed : EncodeAnswers m t s message before (y .answer) (y .after) → EncodeFixed m t s message before y
+  encode-fixed (refused n h k) = record { refused = λ _ i. record { answer = h i; after = k i }; passed = λ e. absurd (n e) }
+  encode-fixed (encoded e h u) = record { refused = λ n. absurd (n e); passed = λ _. h }
+
+  encode-encodes : encodeRefusal m t s message (length before) ≡ 0 → EncodeAnswers m t s message before (y .answer) (y .after)
+      → Encodes m t s message before y
+  encode-encodes e (refused n _ _) = absurd (n e)
+  encode-encodes e (encoded _ h u) = record {
+    word = u .word;
+    of = record { codeword = u .codeword; high = u .high; unsent = u .unsent };
+    one = λ v k. codeword-high m t (encode-known m t s message (length before) e) v (u .word) (k .codeword) (u .codeword) (k .high ∙ sym (u .high));
+    gives = λ i. record { answer = h i; after = u .writes i };
+  }
+
+module _ (m t s : ℕ) (bytes : List ℕ) (y : Reading) where
+  read-fixed : ReadAnswers m t s bytes y → ReadFixed m t s bytes y
+  read-fixed (ReadAnswers.refused n h) = record { refused = λ _. h; passed = λ e. absurd (n e) }
+  read-fixed (ReadAnswers.unreadable e f h) = record { refused = λ n. absurd (n e); passed = λ _. inr h }
+  read-fixed (ReadAnswers.taken e r h) = record { refused = λ n. absurd (n e); passed = λ _. inl (ap (λ (z : Reading). z .refusal) h) }
+
+  read-reads : readRefusal m t s (length bytes) ≡ 0 → ReadAnswers m t s bytes y → Reads m t s bytes y
+  read-reads e (ReadAnswers.refused n h) = absurd (n e)
+  read-reads e (ReadAnswers.unreadable _ f h) = record {
+    some = λ message k. absurd (f (record { codeword = k .codeword; unsent = k .unsent }));
+    none = λ _. h;
+  }
+  read-reads e (ReadAnswers.taken _ r h) = record {
+    some = λ message k. h ∙ ap (says 0) (k .high);
+    none = λ n. absurd (n _ (record { codeword = r .codeword; high = refl; unsent = r .unsent }));
+  }
+
+module _ (c : Call) where
+  pub candidate-among : (w : ℕ) → Candidate (c .m) 1 (2 * c .t) (c .order) (c .soft) w → Among c w
+  candidate-among w h = record { codeword = h .codeword; near = h .near }
+
+  pub among-candidate : (w : ℕ) → Among c w → Candidate (c .m) 1 (2 * c .t) (c .order) (c .soft) w
+  among-candidate w h = record { codeword = h .codeword; near = h .near }
+
+  module _ (y : Result) where
+    decode-fixed : DecodeAnswers (c .m) (c .t) (c .s) (c .order) (c .soft) (c .before) (y .answer) (y .after) → DecodeFixed c y
+    decode-fixed (DecodeAnswers.refused n k) = record { refused = λ _ i. record { answer = k .says i; after = k .keeps i }; passed = λ e. absurd (n e) }
+    decode-fixed (DecodeAnswers.nothing e f k) = record { refused = λ n. absurd (n e); passed = λ _. inr (λ i. record { answer = k .says i; after = k .keeps i }) }
+    decode-fixed (DecodeAnswers.decoded e k) = record { refused = λ n. absurd (n e); passed = λ _. inl (k .refusal) }
+
+    decode-decodes : checksOf c ≡ 0 → DecodeAnswers (c .m) (c .t) (c .s) (c .order) (c .soft) (c .before) (y .answer) (y .after) → Decodes c y
+    decode-decodes e (DecodeAnswers.refused n k) = absurd (n e)
+    decode-decodes e (DecodeAnswers.nothing _ f k) = record {
+      none = λ _ i. record { answer = k .says i; after = k .keeps i };
+      some = λ w h. absurd (f w (among-candidate w h));
+    }
+    decode-decodes e (DecodeAnswers.decoded _ k) = record {
+      none = λ n. absurd (n (k .word) (candidate-among (k .word) (k .nearest .candidate)));
+      some = λ _ _. (
+        k .word,
+        record {
+          among = candidate-among (k .word) (k .nearest .candidate);
+          least = λ v h. k .nearest .least v (among-candidate v h);
+          lowest = λ v h. k .nearest .lowest v (among-candidate v h);
+        },
+        record { bits = k .nearest .candidate .codeword .bits; refusal = k .refusal; distance = k .distance; flips = k .flips; writes = k .writes },
+        record {
+          list = k .candidates .list;
+          once = k .candidates .once;
+          members = λ w. (λ h. candidate-among w (k .candidates .members w .0 h), λ h. k .candidates .members w .1 (among-candidate w h));
+          number = k .candidates .number;
+        },
+      );
+    }
+
+module _ (x : Calls) (h : Contracts x) where
+  pub meets-first : Demand1 x
+  meets-first = record {
+    encode = λ m t s message before. encode-fixed m t s message before _ (h .encode m t s message before);
+    read = λ m t s bytes. read-fixed m t s bytes _ (h .read m t s bytes);
+    decode = λ c. decode-fixed c _ (h .decode c);
+  }
+
+  -- "and the reader brings it back"
+  brings-back : (m t s message : ℕ) (before : List ℕ) → encodeRefusal m t s message (length before) ≡ 0
+      → x .read m t s (x .encode m t s message before .after) ≡ says 0 message
+  brings-back m t s message before e =
+      encode-then-read m t s message before (x .encode m t s message before .after) _
+      (subst (λ (a : ℕ). EncodeAnswers m t s message before a (x .encode m t s message before .after))
+      (meets-first .encode m t s message before .passed e) (h .encode m t s message before))
+      (h .read m t s (x .encode m t s message before .after))
+
+  pub meets-second : Demand2 x
+  meets-second = record {
+    encode = λ m t s message before e. encode-encodes m t s message before _ e (h .encode m t s message before);
+    read = λ m t s bytes e. read-reads m t s bytes _ e (h .read m t s bytes);
+    back = brings-back;
+    decode = λ c e. decode-decodes c _ e (h .decode c);
+  }
