@@ -10,6 +10,7 @@
 --   AtEquality      where the two sums are equal, another word may come back
 -- Assumes nothing.
 use mathlib.Core.Path.{_≡_}
+use mathlib.Core.Logic.{_≢_}
 use Prim.Native.Nat.{ℕ, _+_, _-_, _*_, _^_, _<_, _≤_}
 use Rattle.field.specs.Field.{lengthOf}
 use Rattle.codes.specs.Codeword.{Codeword}
@@ -44,5 +45,5 @@ pub record AtEquality (c : Call) (w v : ℕ) : Type 0 where
   pub checked : checksOf c ≡ 0
   pub sent : Sent c w
   pub equal : wrongSum c w ≡ rightSum c w
-  pub other : v ≡ w → ⊥
+  pub other : v ≢ w
   pub returned : (x : Calls) → Demand2 x → Returns c v (x .decode c)

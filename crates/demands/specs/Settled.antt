@@ -10,8 +10,8 @@
 use mathlib.Core.List.{List, [], _∷_}
 use Prim.Native.Nat.{ℕ}
 use Rattle.codec.specs.Encode.{EncodeAnswers}
-use Rattle.decode.specs.Decode.{DecodeAnswers}
-use Rattle.decode.specs.Called.{Call, Result, refusedWith}
+use Rattle.decode.specs.Decode.{DecodeAnswers, refusing}
+use Rattle.decode.specs.Called.{Call, Result}
 use Rattle.demands.specs.Nearest.{Among}
 use Rattle.demands.specs.SettledCalls.{lent, calling, clean, first, fifth, tied, flat, large}
 
@@ -32,7 +32,7 @@ giving x y distance flips candidates = record {
 }
 
 abbrev pub saying : ℕ → Result
-saying N = refusedWith N (calling 0 clean)
+saying N = record { answer = refusing N; after = lent }
 
 abbrev pub settled : List Example
 settled =
