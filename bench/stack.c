@@ -12,7 +12,7 @@ static unsigned char *stack;
 static ucontext_t back, there;
 static int which, m, t, order;
 static int8_t soft[63];
-static uint8_t buffer[8];
+static uint8_t word[8];
 static uint64_t message[1];
 static uint32_t figures[3];
 
@@ -20,9 +20,9 @@ __attribute__((noinline)) static void empty(void) { __asm__ volatile(""); }
 
 static void call(void) {
     if (which == EMPTY) empty();
-    if (which == ENCODE) malligovu_encode(m, t, 0, 1, buffer, 8);
-    if (which == READ) malligovu_read(m, t, 0, buffer, 8, message, 1);
-    if (which == DECODE) malligovu_decode(m, t, 0, order, soft, (1u << m) - 1, buffer, 8, figures, 3);
+    if (which == ENCODE) malligovu_encode(m, t, 0, 1, word, 8);
+    if (which == READ) malligovu_read(m, t, 0, word, 8, message, 1);
+    if (which == DECODE) malligovu_decode(m, t, 0, order, soft, (1u << m) - 1, word, 8, figures, 3);
 }
 
 static long used(int w) {

@@ -1,0 +1,42 @@
+#!/bin/sh
+# Holds the calls that C hosts link against another implementation, and measures them:
+#     bench/run.sh                   compare, run the example, print instructions, time and stack
+#     bench/run.sh picture [WORDS]   draw docs/word-error-rate.svg with this many words a point (20000)
+# Needs rt, gcc and rustc, and valgrind for the instructions. What it builds goes to a temporary folder.
+set -e
+cd "$(dirname "$0")/.."
+library=target/staticlib/libexport.a
+build=$(mktemp -d)
+trap 'rm -rf "$build"' EXIT
+
+rt staticlib export >"$build/log" 2>&1 || { cat "$build/log"; exit 1; }
+rust() { rustc -O --edition 2021 -o "$build/$1" "bench/$1.rs" -L native=target/staticlib -l static=export; }
+c() { gcc -O2 -Wall -Wextra -I include -o "$build/$1" "$2" "$library"; }
+
+if [ "$1" = picture ]; then
+    rust picture
+    "$build/picture" "${2:-20000}" docs/word-error-rate.svg
+    exit
+fi
+
+rust compare && rust cost && c host examples/host.c && c stack bench/stack.c
+
+echo "== the calls and bench/reference.rs"
+"$build/compare"
+
+echo "== examples/host.c"
+"$build/host"
+
+echo "== instructions (callgrind: the same from run to run) and time, the best of 20 rounds over 16 words"
+if command -v valgrind >/dev/null; then
+    env -i "$(command -v valgrind)" --tool=callgrind --toggle-collect='malligovu_*' --dump-before=mark_begin --dump-after=mark_end \
+        --callgrind-out-file="$build/counts" "$build/cost" count >"$build/log" 2>&1 || { cat "$build/log"; exit 1; }
+    "$build/cost" "$build/counts"
+else
+    echo "valgrind is not here: time alone"
+    "$build/cost"
+fi
+
+echo "== stack, and what is linked"
+LD_BIND_NOW=1 "$build/stack"
+echo "code and tables: $(size -t "$library" | awk 'END { print $1 + $2 }') bytes; from the C library: $(nm -u "$library" | awk '/ U / { print $2 }' | xargs)"
