@@ -1,5 +1,5 @@
 //! Draws the word error rate of (63,45) against Eb/N0, for orders 0 to 3 and for hard decisions: `picture WORDS FILE`. A point takes WORDS
-//! random words, fewer for an order that has had 200 errors. It prints the rates, and writes the picture to FILE.
+//! random words, fewer for an order that has had 200 errors in 2,000. It prints the rates, and writes the picture to FILE.
 mod channel;
 mod library;
 use channel::{deviation, receive, Random};
@@ -8,7 +8,7 @@ use std::sync::atomic::{AtomicUsize, Ordering};
 use std::sync::Mutex;
 
 const POINTS: usize = 13; // 0 to 6 dB, in halves
-const ENOUGH: u32 = 200; // errors
+const ENOUGH: (u32, u32) = (200, 2000); // errors and words
 const SHOWN: u32 = 10; // errors of a point that is drawn
 const CURVES: [&str; 5] = ["hard decisions, t = 3", "order 0", "order 1", "order 2", "order 3"];
 const COLOURS: [&str; 5] = ["#6b7280", "#c2410c", "#a16207", "#0f766e", "#1d4ed8"];
@@ -23,6 +23,10 @@ impl Seen {
     fn add(&mut self, error: bool) {
         self.words += 1;
         self.errors += u32::from(error);
+    }
+
+    fn enough(&self) -> bool {
+        self.errors >= ENOUGH.0 && self.words >= ENOUGH.1
     }
 
     fn rate(&self) -> f64 {
@@ -45,12 +49,12 @@ fn measure(point: usize, words: u32) -> [Seen; 5] {
         receive(&mut random, word, sigma, &mut soft);
         let wrong = (0..63).filter(|&p| (soft[p] < 0) != (word >> p & 1 == 1)).count();
         seen[0].add(wrong > 3);
-        for order in (0..4).filter(|&o| seen[o + 1].errors < ENOUGH).collect::<Vec<_>>() {
+        for (order, one) in seen.iter_mut().skip(1).enumerate().filter(|(_, one)| !one.enough()) {
             let mut got = [0; 8];
             let refusal = library::decode(6, 3, 0, order as u32, &soft, &mut got, &mut []);
-            seen[order + 1].add(refusal > 0 || got != sent);
+            one.add(refusal > 0 || got != sent);
         }
-        if seen.iter().all(|s| s.errors >= ENOUGH) {
+        if seen.iter().all(Seen::enough) {
             break;
         }
     }
@@ -160,14 +164,14 @@ fn drawn(all: &[[Seen; 5]], words: u32) -> String {
          <rect width='760' height='548' fill='#ffffff'/>\n\
          <text x='{LEFT}' y='28' font-size='17' font-weight='600'>Word error rate of (63,45)</text>\n\
          <text x='{LEFT}' y='48' fill='#6b7280'>Bits sent as +1 and \u{2212}1 in white noise, received as signed bytes; \
-         {words} words a point, or {ENOUGH} errors</text>\n"
+         up to {words} words a point</text>\n"
     );
     out += &plot.grid();
     let (middle, below) = ((LEFT + RIGHT) / 2.0, BOTTOM + 46.0);
     let small = |letter| format!("<tspan dy='4' font-size='10'>{letter}</tspan>");
     let _ = writeln!(
         out,
-        "<text x='{middle}' y='{below}' text-anchor='middle'>E{}<tspan dy='-4'>/N</tspan>{}<tspan dy='-4'>&#160;in dB</tspan></text>",
+        "<text x='{middle}' y='{below}' text-anchor='middle'>E{}<tspan dy='-4'>/N</tspan>{}<tspan dx='4' dy='-4'>in dB</tspan></text>",
         small('b'), small('0')
     );
     let _ = writeln!(out, "<text transform='translate(22 {}) rotate(-90)' text-anchor='middle'>word error rate</text>", (TOP + BOTTOM) / 2.0);

@@ -39,4 +39,5 @@ fi
 
 echo "== stack, and what is linked"
 LD_BIND_NOW=1 "$build/stack"
-echo "code and tables: $(size -t "$library" | awk 'END { print $1 + $2 }') bytes; from the C library: $(nm -u "$library" | awk '/ U / { print $2 }' | xargs)"
+bytes=$(size -t "$library" | awk 'END { print $1 + $2 }')
+echo "code and tables: $bytes bytes; from the C library: $(nm -u "$library" | awk '/ U / { print $2 }' | xargs)"

@@ -38,10 +38,12 @@ returns c =
     let d = c .before .before .before .before .before .before .before in
     let n = d .before .before in
     let a = n .before .before .before .before .before .before .args in
+    let on-m = n .before .before .before .narrow .ensures in
+    let on-t = n .before .before .narrow2 .ensures in
+    let on-s = n .before .narrow3 .ensures in
     record {
       answer = d .decode .result;
-      answers =
-          decode-narrow (n .before .before .before .narrow .ensures) (n .before .before .narrow2 .ensures) (n .before .narrow3 .ensures) (n .narrow4 .ensures) (now (a .soft)) (now (a .word)) (d .decode .ensures);
+      answers = decode-narrow on-m on-t on-s (n .narrow4 .ensures) (now (a .soft)) (now (a .word)) (d .decode .ensures);
       refusal = refl;
       tells = c .before .before .before .tell-figures .ensures;
     }

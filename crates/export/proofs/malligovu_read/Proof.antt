@@ -31,10 +31,11 @@ returns : tie.Need-returns
 returns c =
     let r = c .before .before .before .before .before in
     let n = r .before in
+    let a = n .before .before .before .before .before .args in
     record {
       answer = r .read .result;
       answers =
-          read-narrow (n .before .before .narrow .ensures) (n .before .narrow2 .ensures) (n .narrow3 .ensures) (now (n .before .before .before .before .before .args .word)) (r .read .ensures);
+          read-narrow (n .before .before .narrow .ensures) (n .before .narrow2 .ensures) (n .narrow3 .ensures) (now (a .word)) (r .read .ensures);
       refusal = refl;
       tells = c .before .before .before .tell-message .ensures;
     }

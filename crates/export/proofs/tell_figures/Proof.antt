@@ -1,7 +1,6 @@
 -- `export::tell_figures` meets its contract. Assumes nothing.
-use mathlib.Core.Path.{_∙_}
 use denote.Ref.{now}
-use Rattle.export.proofs.ToldLaws.{placed-three, told-nothing, told-all}
+use Rattle.export.proofs.ToldLaws.{told-nothing, told-three}
 use borrow.Author.Needs.{needs}
 use Rattle.export.proofs.tell_figures.Statement.{statement}
 use Rattle.export.proofs.tell_figures.Tie as tie
@@ -25,10 +24,13 @@ same-length c = search needs
 
 returns-2 : tie.Need-returns-2
 returns-2 c =
-    let e = c .before .before .before .before .before .before .before .before .before .before .before .before in
-    let a = e .before .before .args in
-    rw (c .before .before .put3 .ensures, c .before .before .before .before .before .before .put2 .ensures, c .before .before .before .before .before .before .before .before .before .before .put .ensures)
-    (placed-three (a .distance) (a .flips) (a .candidates) (now (a .figures)) ∙ told-all (a .refusal) _ (now (a .figures)) (e .if1 .left))
+    let third = c .before .before in
+    let second = third .before .before .before .before in
+    let first = second .before .before .before .before in
+    let else = first .before .before in
+    let a = else .before .before .args in
+    rw (third .put3 .ensures, second .put2 .ensures, first .put .ensures)
+    (told-three (a .refusal) (a .distance) (a .flips) (a .candidates) (now (a .figures)) (else .if1 .left))
 
 pub tell-figures-spec : {M : Type 1} → statement M
 tell-figures-spec =

@@ -2,7 +2,7 @@
 use mathlib.Core.Path.{sym, _∙_}
 use denote.Ref.{now}
 use lib.Seq.{set-out}
-use Rattle.export.proofs.ToldLaws.{placed-one, told-nothing, told-all}
+use Rattle.export.proofs.ToldLaws.{told-nothing, told-one}
 use borrow.Author.Needs.{needs}
 use Rattle.export.proofs.tell_message.Statement.{statement}
 use Rattle.export.proofs.tell_message.Tie as tie
@@ -19,12 +19,12 @@ same-length c = search needs
 returns-2 : tie.Need-returns-2
 returns-2 c =
     let a = c .before .before .args in
-    placed-one (a .number) (now (a .message)) ∙ told-all (a .refusal) _ (now (a .message)) (c .before .if1 .left)
+    told-one (a .refusal) (a .number) (now (a .message)) (c .before .if1 .left)
 
 returns-3 : tie.Need-returns-3
 returns-3 c =
     let a = c .before .before .args in
-    sym (set-out (now (a .message)) 0 (a .number) (c .if2 .left)) ∙ placed-one (a .number) (now (a .message)) ∙ told-all (a .refusal) _ (now (a .message)) (c .before .if1 .left)
+    sym (set-out (now (a .message)) 0 (a .number) (c .if2 .left)) ∙ told-one (a .refusal) (a .number) (now (a .message)) (c .before .if1 .left)
 
 pub tell-message-spec : {M : Type 1} → statement M
 tell-message-spec =
