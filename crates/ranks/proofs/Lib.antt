@@ -1,5 +1,7 @@
 pub mod SignLaws
 pub mod WordSteps
 pub mod ReceiveSteps
-pub mod InsertSteps
+pub mod CountLaws
+pub mod CountSteps
+pub mod PlaceSteps
 pub mod SortedOrder

@@ -1,26 +1,26 @@
--- Receiving one value after the other: what holds after the first p, and that all of them are what is to be received.
---   FirstIn                what holds at each turn: the first p values are in
---   none-in, one-more-in   it holds at the start, and after a turn more
---   next-fits              the word with one more hard decision fits
---   all-in                 the values are received once all are in
+-- Receiving one value after the other: the hard decisions from the last down, the reliabilities from the first up.
+--   HardsFrom, hards-more   the hard decisions from p on are in; after a turn more
+--   hards-lt, next-fits     their word leaves room for one more, and fits with it
+--   FirstIn                 the reliabilities of the first p values are in
+--   none-in, one-more-in    they are at the start, and after a turn more
+--   all-in                  the reliabilities are those of all positions once all values are in
+--   received                the values are received with both
 -- Assumes nothing.
-use mathlib.Core.Path.{_≡_, refl, sym, ap, _∙_}
+use mathlib.Core.Path.{_≡_, refl, sym, ap, ap₂, _∙_}
 use mathlib.Core.Logic.{_≢_, ⊎-elim, by-cases}
 use mathlib.Core.List.{List, [], _∷_}
-use Prim.Native.Nat.{ℕ, zero, suc, _+_, _*_, _%_, _^_, _<_, _≤_}
+use Prim.Native.Nat.{ℕ, zero, suc, _+_, _-_, _*_, _^_, _<_, _≤_}
 use native.Mathlib.Nat.{eq-or-lt-of-le, not-suc-le-zero, le-of-suc-le-suc}
 use native.Mathlib.Decide.{decLt, ℕ-discrete}
-use native.Mathlib.Numerals.{add-one}
 use native.Mathlib.Omega.{arith}
 use lib.IntN.{ℤ, pos, negsuc, natAbs}
 use lib.ListN.{length, getD, set, replicate, length-set, length-replicate, getD-replicate, List·getD-eq-default}
-use lib.Pow.{shl-exact, pow-mono}
 use lib.Seq.{getD-set-same, getD-set-other}
 use Rattle.codes.specs.Word.{wordOf}
-use Rattle.codes.proofs.WordLaws.{word-lt}
 use Rattle.soft.specs.Value.{softAt, hardOf, hard, reliability}
 use Rattle.ranks.specs.Receives.{Receives}
-use Rattle.ranks.proofs.WordSteps.{word-more, word-longer}
+use Rattle.ranks.specs.Inner.Reliabilities.{Reliabilities}
+use Rattle.ranks.proofs.WordSteps.{wordFrom, word-from-more, word-from-lt, word-longer}
 
 hard-of-bit : (v : ℤ) → hardOf v < 2
 hard-of-bit (pos n) = omega arith
@@ -54,65 +54,74 @@ module _ (soft : List ℤ) where
   unfolding reliability softAt
   reliability-unsent p l = sym (ap natAbs (List·getD-eq-default soft (pos 127) l))
 
-  -- the first p values are in, and the positions from p on are as if unsent
-  pub record FirstIn (p hards : ℕ) (values : List ℕ) : Type 0 where
+  -- the hard decisions from p on are in
+  abbrev pub HardsFrom : ℕ → ℕ → Type 0
+  HardsFrom p hards = (p ≤ length soft) × (hards ≡ wordFrom (length soft) (hard soft) p)
+
+  module _ (p hards : ℕ) (before : HardsFrom p hards) where
+    pub hards-lt : length soft ≤ 63 → hards < 2 ^ 63
+    hards-lt room = omega (arith, before .1, word-from-lt (length soft) (hard soft) (λ k l. hard-bit soft k) room p (before .0))
+
+    module _ (v : ℤ) (h : ℕ) (some : 0 < p) (here : v ≡ getD soft (p - 1) (pos 0)) (bit : h ≡ hardOf v) where
+      pub next-fits : length soft ≤ 63 → hards * 2 + h < 2 ^ 64
+      next-fits room = omega (arith, hards-lt room, bit, hard-of-bit v)
+
+      pub hards-more : HardsFrom (p - 1) (hards * 2 + h)
+      hards-more =
+          let e : p ≡ p - 1 + 1 = omega arith in (
+            omega (arith, before .0),
+            ap₂ (λ (x y : ℕ). x * 2 + y) (before .1 ∙ ap (wordFrom (length soft) (hard soft)) e) (bit ∙ hard-sent (p - 1) v (omega (arith, before .0)) here)
+                ∙ sym (word-from-more (length soft) (hard soft) (p - 1) (omega (arith, before .0))),
+          )
+
+  -- the reliabilities of the first p values are in, and the positions from p on are as if unsent
+  pub record FirstIn (p : ℕ) (values : List ℕ) : Type 0 where
     pub at : p ≤ length soft
     pub size : length values ≡ 63
-    pub word : hards ≡ wordOf p (hard soft)
     pub sent : (k : ℕ) → k < p → getD values k 0 ≡ reliability soft k
     pub unsent : (k : ℕ) → p ≤ k → k < 63 → getD values k 0 ≡ 127
     pub small : (k : ℕ) → k < 63 → getD values k 0 ≤ 128
 
-  pub none-in : FirstIn 0 0 (replicate 63 127)
-  unfolding wordOf
+  pub none-in : FirstIn 0 (replicate 63 127)
   none-in = record {
     at = omega arith;
     size = length-replicate {A = ℕ} 63 127;
-    word = refl;
     sent = λ k l. absurd (omega arith);
     unsent = λ k h l. getD-replicate 63 k 127 0 l;
     small = λ k l. omega (arith, getD-replicate {A = ℕ} 63 k 127 0 l);
   }
 
-  module _ (p hards : ℕ) (values : List ℕ) (before : FirstIn p hards values) where
-    module _ (v : ℤ) (h : ℕ) (inside : p < length soft) (room : p < 63) (here : v ≡ getD soft p (pos 0)) (bit : h ≡ hardOf v) where
-      -- the word with the next hard decision, as the code makes it
-      next-word : hards + h * 2 ^ p % 2 ^ 64 ≡ wordOf (p + 1) (hard soft)
-      next-word =
-          let e : h ≡ hard soft p = bit ∙ hard-sent p v inside here in
-          let s = shl-exact {a = h} 1 p 64 (omega (arith, hard-bit soft p)) (omega arith) in
-          let t : hards + hard soft p * 2 ^ p ≡ wordOf (p + 1) (hard soft) = rw (before .word, add-one, word-more p (hard soft)) in
-          ap (λ (x : ℕ). hards + x) (s ∙ ap (λ (x : ℕ). x * 2 ^ p) e) ∙ t
-
-      pub next-fits : hards + h * 2 ^ p % 2 ^ 64 < 2 ^ 64
-      next-fits =
-          omega (arith, next-word, word-lt (p + 1) (hard soft) (λ k l. hard-bit soft k), pow-mono {i = p + 1} {j = 64} (omega arith))
-
-      pub one-more-in : (x : ℕ) → (x ≡ natAbs v) × (x ≤ 128) → FirstIn (p + 1) (hards + h * 2 ^ p % 2 ^ 64) (set values p x)
-      one-more-in x s = record {
-        at = omega arith;
-        size = length-set values p x ∙ before .size;
-        word = next-word;
-        sent = λ k l. ⊎-elim
-            (λ (q : k ≡ p). rw q (same ∙ s .0 ∙ reliability-sent p v inside here))
-            (λ (q : k < p). other k (λ z. omega arith) ∙ before .sent k q)
-            (eq-or-lt-of-le {n = k} {m = p} (omega arith));
-        unsent = λ k g l. other k (λ z. omega arith) ∙ before .unsent k (omega arith) l;
-        small = λ k l. by-cases (ℕ-discrete k p)
-            (λ (q : k ≡ p). rw (q, same) (s .1))
-            (λ q. rw (other k q) (before .small k l));
-      }
-        where
-          same : getD (set values p x) p 0 ≡ x
-          same = getD-set-same values p x 0 (omega (arith, before .size))
-
-          other : (k : ℕ) → k ≢ p → getD (set values p x) k 0 ≡ getD values k 0
-          other k n = getD-set-other values p k x 0 n
-
-    pub all-in : length soft ≤ p → Receives soft (record { hards = hards; reliability = values })
-    all-in end = record {
-      hards = λ n l. before .word ∙ sym (word-longer n p (hard soft) (omega (arith, before .at)) (λ j g. hard-unsent j (omega arith)));
-      reliabilities = λ k l. by-cases (decLt k p) (λ b. before .sent k b)
-          (λ b. before .unsent k (omega arith) l ∙ reliability-unsent k (omega (arith, before .at)));
-      small = before .small;
+  module _ (p : ℕ) (values : List ℕ) (before : FirstIn p values) where
+    pub one-more-in : (v : ℤ) (x : ℕ) → p < length soft → p < 63 → v ≡ getD soft p (pos 0) → (x ≡ natAbs v) × (x ≤ 128) → FirstIn (p + 1) (set values p x)
+    one-more-in v x inside room here s = record {
+      at = omega arith;
+      size = length-set values p x ∙ before .size;
+      sent = λ k l. ⊎-elim
+          (λ (q : k ≡ p). rw q (same ∙ s .0 ∙ reliability-sent p v inside here))
+          (λ (q : k < p). other k (λ z. omega arith) ∙ before .sent k q)
+          (eq-or-lt-of-le {n = k} {m = p} (omega arith));
+      unsent = λ k g l. other k (λ z. omega arith) ∙ before .unsent k (omega arith) l;
+      small = λ k l. by-cases (ℕ-discrete k p)
+          (λ (q : k ≡ p). rw (q, same) (s .1))
+          (λ q. rw (other k q) (before .small k l));
     }
+      where
+        same : getD (set values p x) p 0 ≡ x
+        same = getD-set-same values p x 0 (omega (arith, before .size))
+
+        other : (k : ℕ) → k ≢ p → getD (set values p x) k 0 ≡ getD values k 0
+        other k n = getD-set-other values p k x 0 n
+
+    pub all-in : length soft ≤ p → Reliabilities soft values
+    all-in end k l = (
+      by-cases (decLt k p) (λ b. before .sent k b) (λ b. before .unsent k (omega arith) l ∙ reliability-unsent k (omega (arith, before .at))),
+      before .small k l,
+    )
+
+  pub received : (hards : ℕ) (values : List ℕ) → hards ≡ wordOf (length soft) (hard soft) → Reliabilities soft values
+      → Receives soft (record { hards = hards; reliability = values })
+  received hards values h r = record {
+    hards = λ n l. h ∙ sym (word-longer n (length soft) (hard soft) l hard-unsent);
+    reliabilities = λ k l. r k l .0;
+    small = λ k l. r k l .1;
+  }

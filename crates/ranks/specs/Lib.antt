@@ -1,3 +1,4 @@
 pub mod Places
 pub mod Receives
 pub mod Ordered
+pub mod Inner

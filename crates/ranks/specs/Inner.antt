@@ -1,0 +1,3 @@
+-- What only the contracts of the inner functions cite. Assumes nothing.
+pub mod Reliabilities
+pub mod Counts
