@@ -6,13 +6,13 @@ use mathlib.Core.List.{List}
 use Prim.Native.Nat.{ℕ, _+_, _-_, _*_, _/_, _%_, _^_, _<_, _≤_}
 use native.Mathlib.Nat.{le-trans, div-eq-of-lt}
 use native.Mathlib.Omega.{arith}
-use lib.Pow.{pow-mono, shl-exact}
+use lib.Pow.{pow-mono, shl-lt, shl-exact}
 use lib.ListN.{length}
 use Rattle.field.specs.Field.{_⊕_, lengthOf}
 use Rattle.codes.specs.Code.{Known, dimensionOf, parityOf, generatorOf}
 use Rattle.codes.specs.Codeword.{Codeword}
 use Rattle.codes.specs.Generator.{remainderBy, withParity, systematic}
-use Rattle.codes.proofs.ShapeLaws.{parity-full}
+use Rattle.codes.proofs.ShapeLaws.{length-small, parity-full}
 use Rattle.codes.proofs.WordLaws.{below-div, high-lt, high-below}
 use Rattle.codes.proofs.SystematicWord.{systematic-high, systematic-codeword, codeword-high}
 use Rattle.frame.specs.Packing.{written, wordIn}
@@ -21,10 +21,16 @@ use Rattle.frame.proofs.RefusalLaws.{EncodePassed, ReadPassed, encode-passed, r
 use Rattle.codec.specs.Encode.{EncodeAnswers}
 use Rattle.codec.specs.Read.{ReadAnswers, says}
 
--- the message moved up by the parity bits fits a number of 64 bits
-pub message-moved : (m t M : ℕ) → Known m t → M < 2 ^ dimensionOf m t → parityOf m t + dimensionOf m t ≤ 63
-    → (M * 2 ^ parityOf m t) % 2 ^ 64 ≡ M * 2 ^ parityOf m t
-message-moved m t M k h l = shl-exact {a = M} (dimensionOf m t) (parityOf m t) 64 h (omega arith)
+-- the message moved up by the parity bits is a word of n bits
+module _ (m t M : ℕ) (k : Known m t) (h : M < 2 ^ dimensionOf m t) where
+  pub message-moved : (M * 2 ^ parityOf m t) % 2 ^ 64 ≡ M * 2 ^ parityOf m t
+  message-moved =
+      shl-exact {a = M} (dimensionOf m t) (parityOf m t) 64 h (omega (arith, parity-full m t k, length-small m (k .m-low) (k .m-high)))
+
+  pub moved-lt : M * 2 ^ parityOf m t < 2 ^ (parityOf m t + dimensionOf m t)
+  moved-lt =
+      let e : dimensionOf m t + parityOf m t ≡ parityOf m t + dimensionOf m t = omega arith in
+      subst (λ (x : ℕ). M * 2 ^ parityOf m t < 2 ^ x) e (shl-lt (dimensionOf m t) (parityOf m t) h)
 
 pub systematic-is : (m t M : ℕ) → M * 2 ^ parityOf m t ⊕ remainderBy (parityOf m t) (generatorOf m t) (dimensionOf m t) (M * 2 ^ parityOf m t) ≡ systematic m t M
 unfolding systematic withParity

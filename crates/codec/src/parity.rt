@@ -35,17 +35,21 @@ pub fn parity_bits(m: u16, t: u16) -> usize
     frame::length_of(m) - frame::dimension_of(m, t)
 }
 
-// What is left of the word c, of d + k bits, when it is divided by the generator g, of degree d.
-fn remainder(d: usize, g: u64, k: usize, c: u64) -> u64
-    requires { ⌜ (d + k ≤ 63) × (g / 2 ^ d ≡ 1) ⌝ }
-    ensures { λ r. ⌜ r ≡ remainderBy d g k c ⌝ }
+// What is left of a word when it is divided by the generator. At each place from the top, of what is left and its sum with the generator
+// moved there, the smaller has no coefficient at that place.
+fn remainder(m: u16, t: u16, word: u64) -> u64
+    requires { ⌜ Known m t × (word < 2 ^ (parityOf m t + dimensionOf m t)) ⌝ }
+    ensures { λ r. ⌜ r ≡ remainderBy (parityOf m t) (generatorOf m t) (dimensionOf m t) word ⌝ }
 {
-    let mut left = c;
-    let mut i = k;
+    let mut left = word;
+    let mut i = frame::dimension_of(m, t);
+    let mut moved = generator_of(m, t) << i;
     while 0 < i {
         i -= 1;
-        if (left >> (d + i)) % 2 == 1 {
-            left = left ^ (g << i);
+        moved = moved / 2;
+        let other = left ^ moved;
+        if other < left {
+            left = other;
         }
     }
     left
@@ -56,9 +60,6 @@ pub fn word_of(m: u16, t: u16, message: u64) -> u64
     requires { ⌜ Known m t × (message < 2 ^ dimensionOf m t) ⌝ }
     ensures { λ r. ⌜ r ≡ systematic m t message ⌝ }
 {
-    let d = parity_bits(m, t);
-    let moved = message << d;
-    let g = generator_of(m, t);
-    let k = frame::dimension_of(m, t);
-    moved ^ remainder(d, g, k, moved)
+    let moved = message << parity_bits(m, t);
+    moved ^ remainder(m, t, moved)
 }

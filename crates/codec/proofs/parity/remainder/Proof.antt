@@ -1,33 +1,39 @@
 -- `codec::parity::remainder` meets its contract: what is left to divide gives the same remainder at every turn. Assumes nothing.
-use mathlib.Core.Path.{_≡_, refl, sym, ap, _∙_}
-use Prim.Native.Nat.{ℕ, _-_, _≤_}
 use native.Mathlib.Omega.{arith}
 use Rattle.field.specs.Field.{_⊕_}
-use Rattle.codes.specs.Generator.{remainderBy}
-use Rattle.codec.proofs.RemainderSteps.{remainder-there, remainder-not, remainder-end, generator-moved}
+use Rattle.codes.specs.Code.{dimensionOf, parityOf, generatorOf}
+use Rattle.codes.proofs.ShapeLaws.{length-small, parity-full}
+use Rattle.codes.proofs.SystematicWord.{top}
+use borrow.Author.Needs.{needs}
+use Rattle.codec.proofs.RemainderSteps.{Dividing, dividing, taken-off, let-be, divided}
 use Rattle.codec.proofs.parity.remainder.Statement.{statement}
 use Rattle.codec.proofs.parity.remainder.Tie as tie
 
 abbrev Inv-loop : tie.InvT-loop
-Inv-loop d g k c left₀ i₀ left i = (i ≤ k) × (remainderBy d g i left ≡ remainderBy d g k c)
+Inv-loop m t word left₀ i₀ moved₀ left i moved = Dividing (parityOf m t) (generatorOf m t) (dimensionOf m t) word i left moved
 
 abbrev μ-loop : tie.MeasureT-loop
-μ-loop d g k c left₀ i₀ left i = i
+μ-loop m t word left₀ i₀ moved₀ left i moved = i
+
+dimension-of-requires : tie.Need-dimension-of-requires Inv-loop μ-loop
+dimension-of-requires c κs = search needs
+
+generator-of-requires : tie.Need-generator-of-requires Inv-loop μ-loop
+generator-of-requires c κs = search needs
+
+shl-moved : tie.Need-shl-moved Inv-loop μ-loop
+shl-moved c = search needs
 
 loop-holds : tie.Need-loop-holds Inv-loop μ-loop
-loop-holds c = (omega arith, refl)
+loop-holds c =
+    let s = c .before .before in let a = s .args in
+    let known = s .pre .0 in
+    rw (c .before .dimension-of .ensures .0, c .generator-of .ensures)
+    (dividing (parityOf (a .m) (a .t)) (generatorOf (a .m) (a .t)) (dimensionOf (a .m) (a .t)) (a .word) (top (a .m) (a .t) known)
+    (omega (arith, parity-full (a .m) (a .t) known, length-small (a .m) (known .m-low) (known .m-high))) (s .pre .1))
 
 sub-i : tie.Need-sub-i Inv-loop μ-loop
 sub-i c = omega arith
-
-add-if1 : tie.Need-add-if1 Inv-loop μ-loop
-add-if1 c = omega arith
-
-shr-if1 : tie.Need-shr-if1 Inv-loop μ-loop
-shr-if1 c = omega arith
-
-shl-left : tie.Need-shl-left Inv-loop μ-loop
-shl-left c = omega arith
 
 loop-less : tie.Need-loop-less Inv-loop μ-loop
 loop-less c = omega arith
@@ -35,28 +41,27 @@ loop-less c = omega arith
 loop-again : tie.Need-loop-again Inv-loop μ-loop
 unfolding _⊕_
 loop-again c =
-    let a = c .before .before .before .args in
-    let l = c .before .before .loop in (
-      omega arith,
-      ap (λ (x : ℕ). remainderBy (a .d) (a .g) (l .i - 1) (l .left ⊕ x)) (generator-moved (a .d) (a .g) (l .i - 1) (c .before .before .before .pre .1) (omega arith))
-          ∙ remainder-there (a .d) (a .g) (l .i) (l .left) (omega arith) (c .if1 .taken)
-          ∙ l .inv .1,
-    )
+    let s = c .before .before .before .before .before in let a = s .args in
+    let l = c .before .before .loop in
+    taken-off (parityOf (a .m) (a .t)) (generatorOf (a .m) (a .t)) (dimensionOf (a .m) (a .t)) (a .word) (top (a .m) (a .t) (s .pre .0))
+    (l .i) (l .left) (l .moved) (l .inv) (c .before .loop-test .taken) (c .if1 .taken)
 
 loop-less-2 : tie.Need-loop-less-2 Inv-loop μ-loop
 loop-less-2 c = omega arith
 
 loop-again-2 : tie.Need-loop-again-2 Inv-loop μ-loop
+unfolding _⊕_
 loop-again-2 c =
-    let a = c .before .before .before .args in
+    let s = c .before .before .before .before .before in let a = s .args in
     let l = c .before .before .loop in
-    (omega arith, remainder-not (a .d) (a .g) (l .i) (l .left) (omega arith) (c .if1 .left) ∙ l .inv .1)
+    let-be (parityOf (a .m) (a .t)) (generatorOf (a .m) (a .t)) (dimensionOf (a .m) (a .t)) (a .word) (top (a .m) (a .t) (s .pre .0))
+    (l .i) (l .left) (l .moved) (l .inv) (c .before .loop-test .taken) (c .if1 .left)
 
 returns : tie.Need-returns Inv-loop μ-loop
 returns c =
-    let a = c .before .before .args in
+    let a = c .before .before .before .before .args in
     let l = c .before .loop in
-    sym (remainder-end (a .d) (a .g) (l .i) (l .left) (omega arith)) ∙ l .inv .1
+    divided (parityOf (a .m) (a .t)) (generatorOf (a .m) (a .t)) (dimensionOf (a .m) (a .t)) (a .word) (l .i) (l .left) (l .moved) (l .inv) (c .loop-test .left)
 
 pub remainder-spec : {M : Type 1} → statement M
 remainder-spec =
@@ -64,11 +69,11 @@ remainder-spec =
     (tie.spec
     Inv-loop
     μ-loop
+    dimension-of-requires
+    generator-of-requires
+    shl-moved
     loop-holds
     sub-i
-    add-if1
-    shr-if1
-    shl-left
     loop-less
     loop-again
     loop-less-2

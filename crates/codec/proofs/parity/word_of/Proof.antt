@@ -1,13 +1,11 @@
 -- `codec::parity::word_of` meets its contract: the message moved up, and its remainder. Assumes nothing.
-use mathlib.Core.Path.{ap, ap₂, _∙_, subst}
-use Prim.Native.Nat.{ℕ, _+_, _*_, _/_, _%_, _^_, _≤_}
-use native.Mathlib.Omega.{arith}
+use mathlib.Core.Path.{_≡_, ap, ap₂, sym, _∙_, subst}
+use Prim.Native.Nat.{ℕ, _+_, _*_, _%_, _^_, _<_}
 use Rattle.field.specs.Field.{_⊕_}
-use Rattle.codes.specs.Code.{dimensionOf}
+use Rattle.codes.specs.Code.{dimensionOf, parityOf, generatorOf}
 use Rattle.codes.specs.Generator.{remainderBy}
-use Rattle.codes.proofs.SystematicWord.{top}
-use Rattle.codec.proofs.CodecLaws.{message-moved, systematic-is}
 use borrow.Author.Needs.{needs}
+use Rattle.codec.proofs.CodecLaws.{message-moved, moved-lt, systematic-is}
 use Rattle.codec.proofs.parity.word_of.Statement.{statement}
 use Rattle.codec.proofs.parity.word_of.Tie as tie
 
@@ -17,36 +15,25 @@ parity-bits-requires c κs = search needs
 shl-moved : tie.Need-shl-moved
 shl-moved c = search needs
 
-generator-of-requires : tie.Need-generator-of-requires
-generator-of-requires c κs = search needs
-
-dimension-of-requires : tie.Need-dimension-of-requires
-dimension-of-requires c κs = search needs
+-- the message moved up, as the code does it
+moved : (c : tie.After-parity-bits)
+    → c .before .args .message * 2 ^ c .parity-bits .result % 2 ^ 64 ≡ c .before .args .message * 2 ^ parityOf (c .before .args .m) (c .before .args .t)
+moved c =
+    let a = c .before .args in
+    ap (λ (x : ℕ). a .message * 2 ^ x % 2 ^ 64) (c .parity-bits .ensures .0) ∙ message-moved (a .m) (a .t) (a .message) (c .before .pre .0) (c .before .pre .1)
 
 remainder-requires : tie.Need-remainder-requires
 remainder-requires c κs =
-    let b = c .before .before in
-    let e = b .parity-bits .ensures .0 in
-    (omega (arith, c .dimension-of .ensures .0), ap₂ (λ (g d : ℕ). g / 2 ^ d) (c .before .generator-of .ensures) e ∙ top _ _ (b .before .pre .0))
+    let a = c .before .args in let p = c .before .pre in
+    (p .0, subst (λ (x : ℕ). x < 2 ^ (parityOf (a .m) (a .t) + dimensionOf (a .m) (a .t))) (sym (moved c)) (moved-lt (a .m) (a .t) (a .message) (p .0) (p .1)))
 
 returns : tie.Need-returns
 unfolding _⊕_
 returns c =
-    let b = c .before .before .before in
-    let a = b .before .args in
-    let d = b .parity-bits .ensures .0 in
-    let moved = ap (λ (x : ℕ). (a .message * 2 ^ x) % 2 ^ 64) d
-    ∙ message-moved (a .m) (a .t) (a .message) (b .before .pre .0) (b .before .pre .1) (subst (λ (x : ℕ). x + dimensionOf (a .m) (a .t) ≤ 63) d (b .parity-bits .ensures .1)) in
-    ap₂ _⊕_ moved (c .remainder .ensures ∙ (λ i. remainderBy (d i) (c .before .before .generator-of .ensures i) (c .before .dimension-of .ensures .0 i) (moved i)))
+    let a = c .before .before .args in
+    let e = moved (c .before) in
+    ap₂ _⊕_ e (c .remainder .ensures ∙ ap (remainderBy (parityOf (a .m) (a .t)) (generatorOf (a .m) (a .t)) (dimensionOf (a .m) (a .t))) e)
     ∙ systematic-is (a .m) (a .t) (a .message)
 
 pub word-of-spec : {M : Type 1} → statement M
-word-of-spec =
-    tie.close
-    (tie.spec
-    parity-bits-requires
-    shl-moved
-    generator-of-requires
-    dimension-of-requires
-    remainder-requires
-    returns)
+word-of-spec = tie.close (tie.spec parity-bits-requires shl-moved remainder-requires returns)
