@@ -5,10 +5,10 @@
 --   taken-off, let-be            and after a turn more, whether the generator is taken off or not
 --   divided                      at the end what is left is the remainder
 -- Assumes nothing.
-use mathlib.Core.Path.{_≡_, refl, sym, ap, _∙_, subst}
+use mathlib.Core.Path.{_≡_, refl, sym, ap, _∙_}
 use mathlib.Core.Logic.{_⊎_, inl, inr, ⊎-elim}
 use Prim.Native.Nat.{ℕ, zero, suc, _+_, _-_, _*_, _/_, _%_, _^_, _<_, _≤_}
-use native.Mathlib.Nat.{pow-suc, mul-assoc, mul-div-cancel, mul-div-mul-right, div-lt-iff-lt-mul, le-div-iff-mul-le, div-eq-of-lt}
+use native.Mathlib.Nat.{pow-suc, mul-assoc, mul-div-cancel, mul-div-mul-right, div-lt-iff-lt-mul, le-div-iff-mul-le}
 use native.Mathlib.Omega.{arith}
 use lib.Bits as B
 use lib.Pow.{pow-add, pow-pos, shl-exact}

@@ -1,7 +1,6 @@
 // The word of a message: the message at the top, and below it the parity that makes a codeword.
 ghost use mathlib.Core.Path.{_≡_};
-ghost use Prim.Native.Nat.{_+_, _*_, _/_, _%_, _^_, _≤_, _<_};
-ghost use Rattle.field.specs.Field.{_⊕_};
+ghost use Prim.Native.Nat.{_+_, _^_, _≤_, _<_};
 ghost use Rattle.codes.specs.Code.{Known, dimensionOf, parityOf, generatorOf};
 ghost use Rattle.codes.specs.Generator.{remainderBy, systematic};
 
