@@ -3,6 +3,7 @@ use mathlib.Core.Path.{_≡_, refl, sym, ap, _∙_, subst}
 use mathlib.Core.Logic.{inl, inr}
 use mathlib.Core.List.{List}
 use Prim.Native.Nat.{ℕ, _*_}
+use native.Mathlib.Omega.{arith}
 use lib.ListN.{length}
 use Rattle.codes.proofs.SystematicWord.{codeword-high}
 use Rattle.search.specs.Candidate.{Candidate}
@@ -77,7 +78,7 @@ module _ (c : Call) where
         record {
           among = candidate-among (k .word) (k .nearest .candidate);
           least = λ v h. k .nearest .least v (among-candidate v h);
-          lowest = λ v h. k .nearest .lowest v (among-candidate v h);
+          lowest = λ v h e. omega (arith, k .nearest .lowest v (among-candidate v h) e);
         },
         record { bits = k .nearest .candidate .codeword .bits; refusal = k .refusal; distance = k .distance; flips = k .flips; writes = k .writes },
         record {

@@ -3,6 +3,7 @@
 use mathlib.Core.Path.{_≡_, refl, ap}
 use mathlib.Core.List.{List}
 use Prim.Native.Nat.{ℕ}
+use native.Mathlib.Omega.{arith}
 use Rattle.codec.specs.Encode.{EncodeAnswers, refused, encoded}
 use Rattle.codec.specs.Read.{ReadAnswers}
 use Rattle.codec.proofs.CodecOneAnswer.{encode-one-answer, read-one-answer}
@@ -31,7 +32,7 @@ module _ (c : Call) (y : Result) (h : Decodes c y) where
         nearest = record {
           candidate = among-candidate c (u .0) (u .1 .among);
           least = λ v a. u .1 .least v (candidate-among c v a);
-          lowest = λ v a. u .1 .lowest v (candidate-among c v a);
+          lowest = λ v a e. omega (arith, u .1 .lowest v (candidate-among c v a) e);
         };
         refusal = u .2 .refusal;
         distance = u .2 .distance;

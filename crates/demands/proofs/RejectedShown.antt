@@ -3,13 +3,14 @@
 -- Assumes nothing.
 use mathlib.Core.Path.{_≡_, refl, sym, ap, _∙_}
 use mathlib.Core.List.{List}
-use Prim.Native.Nat.{ℕ}
+use Prim.Native.Nat.{ℕ, _<_}
 use native.Mathlib.Omega.{arith}
 use lib.ListN.{getD}
 use Rattle.decode.specs.Called.{Call, Result, checksOf, resultOf}
 use Rattle.demands.specs.Calls.{Calls}
+use Rattle.demands.specs.Nearest.{Returns}
 use Rattle.demands.specs.Demand2.{Demand2}
-use Rattle.demands.specs.Demand3.{Demand3}
+use Rattle.demands.specs.Demand3.{wrongSum, rightSum, Sent, Demand3}
 use Rattle.demands.specs.SettledCalls.{calling, clean, fifth, tied}
 use Rattle.demands.specs.Rejected.{RefusesAll, ZeroWord, WritesNothing, UnflippedOnly, InventsCount, Rejected, WrongVersionsAreRejected}
 use Rattle.demands.specs.Wrong.{WrongVersionsExist}
@@ -25,6 +26,10 @@ forced x h c y e q = decodes-one c (x .decode c) (h .decode c e) e ∙ q
 forced-after : (x : Calls) → Demand2 x → (c : Call) (y : Result) → checksOf c ≡ 0 → resultOf c ≡ y → x .decode c .after ≡ y .after
 forced-after x h c y e q = ap (λ (z : Result). z .after) (forced x h c y e q)
 
+-- what demand 3 makes of a call
+returned : (x : Calls) → Demand3 x → (c : Call) (w : ℕ) → checksOf c ≡ 0 → Sent c w → wrongSum c w < rightSum c w → Returns c w (x .decode c)
+returned x h c w e s l = h c e w s (omega (arith, l)) .0
+
 -- two buffers that differ in the first byte
 unequal : (l k : List ℕ) (x y : ℕ) → getD l 0 0 ≡ x → getD k 0 0 ≡ y → (x ≡ y → ⊥) → l ≡ k → ⊥
 unequal l k x y p q n e = n (sym p ∙ ap (λ (z : List ℕ). getD z 0 0) e ∙ q)
@@ -33,7 +38,7 @@ refuses-all-2 : Rejected RefusesAll Demand2
 refuses-all-2 x r h = r (calling 0 clean) (ap (λ (y : Result). y .answer .refusal) (forced x h (calling 0 clean) _ (passes-0 clean refl) p5))
 
 refuses-all-3 : Rejected RefusesAll Demand3
-refuses-all-3 x r h = r (calling 0 clean) (h (calling 0 clean) (passes-0 clean refl) 0 sent-clean margin-clean .0 .refusal)
+refuses-all-3 x r h = r (calling 0 clean) (returned x h (calling 0 clean) 0 (passes-0 clean refl) sent-clean margin-clean .refusal)
 
 zero-word-2 : Rejected ZeroWord Demand2
 zero-word-2 x z h =
@@ -42,7 +47,7 @@ zero-word-2 x z h =
 zero-word-3 : Rejected ZeroWord Demand3
 zero-word-3 x z h =
     unequal _ _ 0 4 refl refl (λ e. omega arith)
-    (sym zero-bytes ∙ sym (z (calling 0 other) (passes-0 other refl)) ∙ h (calling 0 other) (passes-0 other refl) 0x6004 sent-other margin-other .0 .writes ∙ other-bytes)
+    (sym zero-bytes ∙ sym (z (calling 0 other) (passes-0 other refl)) ∙ returned x h (calling 0 other) 0x6004 (passes-0 other refl) sent-other margin-other .writes ∙ other-bytes)
 
 writes-nothing-2 : Rejected WritesNothing Demand2
 writes-nothing-2 x z h = unequal _ _ 255 0 refl refl (λ e. omega arith) (sym (z (calling 0 clean)) ∙ forced-after x h (calling 0 clean) _ (passes-0 clean refl) p5)
@@ -56,7 +61,7 @@ unflipped-only-3 : Rejected UnflippedOnly Demand3
 unflipped-only-3 x z h =
     unequal _ _ 255 0 refl refl (λ e. omega arith)
     (sym (z (calling 1 fifth) (passes-1 fifth refl) ∙ ap (λ (y : Result). y .after) p8)
-    ∙ h (calling 1 fifth) (passes-1 fifth refl) 0 sent-fifth margin-fifth .0 .writes ∙ zero-bytes)
+    ∙ returned x h (calling 1 fifth) 0 (passes-1 fifth refl) sent-fifth margin-fifth .writes ∙ zero-bytes)
 
 invents-count-2 : Rejected InventsCount Demand2
 invents-count-2 x z h =
