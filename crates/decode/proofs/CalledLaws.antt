@@ -65,5 +65,5 @@ result-answers c = go (checksOf c) refl
 
 pub answers-as-result : (c : Call) (x : Result) → Answers c x → x ≡ resultOf c
 answers-as-result c x h =
-    let p = decode-one-answer (c .m) (c .t) (c .s) (c .order) (c .soft) (c .before) (x .answer) (resultOf c .answer) (x .after) (resultOf c .after) h (result-answers c) in
+    let p = decode-one-answer (c .m) (c .t) (c .s) (c .order) (c .soft) (c .before) _ _ _ _ h (result-answers c) in
     λ i. record { answer = p .0 i; after = p .1 i }

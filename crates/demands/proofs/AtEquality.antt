@@ -23,7 +23,8 @@ equality-shown = record {
   sent = sent-tied;
   equal = equal-tied;
   other = λ e. omega arith;
-  returned = λ x h. subst (Returns (calling 1 tied) 0) (sym (decodes-one (calling 1 tied) _ (h .decode (calling 1 tied) checked) checked ∙ p10)) zero-returned;
+  returned = λ x h. subst (Returns (calling 1 tied) 0)
+      (sym (decodes-one (calling 1 tied) _ (h .decode (calling 1 tied) checked) checked ∙ p10)) zero-returned;
 }
   where
     checked : checksOf (calling 1 tied) ≡ 0

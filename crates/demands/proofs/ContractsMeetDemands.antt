@@ -13,8 +13,8 @@ use Rattle.codec.specs.Encode.{EncodeAnswers, refused, encoded}
 use Rattle.codec.specs.Read.{ReadAnswers, says}
 use Rattle.codec.specs.declared.Reading.{Reading}
 use Rattle.codec.proofs.RoundTrip.{encode-then-read}
-use Rattle.decode.specs.Decode.{DecodeAnswers}
-use Rattle.decode.specs.Called.{Call, Result, checksOf}
+use Rattle.decode.specs.Decode.{Refused, DecodeAnswers}
+use Rattle.decode.specs.Called.{Call, Result, checksOf, refusedWith}
 use Rattle.demands.specs.Calls.{Encoding, Calls, Contracts}
 use Rattle.demands.specs.Demand1.{EncodeFixed, ReadFixed, DecodeFixed, Demand1}
 use Rattle.demands.specs.Nearest.{Among, Decodes}
@@ -60,15 +60,18 @@ module _ (c : Call) where
   among-candidate w h = record { codeword = h .codeword; near = h .near }
 
   module _ (y : Result) where
+    refused-whole : (N : ℕ) → Refused N (c .before) (y .answer) (y .after) → y ≡ refusedWith N c
+    refused-whole N k = λ i. record { answer = k .says i; after = k .keeps i }
+
     decode-fixed : DecodeAnswers (c .m) (c .t) (c .s) (c .order) (c .soft) (c .before) (y .answer) (y .after) → DecodeFixed c y
-    decode-fixed (DecodeAnswers.refused n k) = record { refused = λ _ i. record { answer = k .says i; after = k .keeps i }; passed = λ e. absurd (n e) }
-    decode-fixed (DecodeAnswers.nothing e f k) = record { refused = λ n. absurd (n e); passed = λ _. inr (λ i. record { answer = k .says i; after = k .keeps i }) }
+    decode-fixed (DecodeAnswers.refused n k) = record { refused = λ _. refused-whole _ k; passed = λ e. absurd (n e) }
+    decode-fixed (DecodeAnswers.nothing e f k) = record { refused = λ n. absurd (n e); passed = λ _. inr (refused-whole 6 k) }
     decode-fixed (DecodeAnswers.decoded e k) = record { refused = λ n. absurd (n e); passed = λ _. inl (k .refusal) }
 
     decode-decodes : checksOf c ≡ 0 → DecodeAnswers (c .m) (c .t) (c .s) (c .order) (c .soft) (c .before) (y .answer) (y .after) → Decodes c y
     decode-decodes e (DecodeAnswers.refused n k) = absurd (n e)
     decode-decodes e (DecodeAnswers.nothing _ f k) = record {
-      none = λ _ i. record { answer = k .says i; after = k .keeps i };
+      none = λ _. refused-whole 6 k;
       some = λ w h. absurd (f w (among-candidate w h));
     }
     decode-decodes e (DecodeAnswers.decoded _ k) = record {

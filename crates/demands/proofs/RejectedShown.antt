@@ -42,15 +42,19 @@ refuses-all-3 x r h = r (calling 0 clean) (returned x h (calling 0 clean) 0 (pas
 
 zero-word-2 : Rejected ZeroWord Demand2
 zero-word-2 x z h =
-    unequal _ _ 0 4 refl refl (λ e. omega arith) (sym zero-bytes ∙ sym (z (calling 0 tied) (passes-0 tied refl)) ∙ forced-after x h (calling 0 tied) _ (passes-0 tied refl) p9)
+    unequal _ _ 0 4 refl refl (λ e. omega arith)
+    (sym zero-bytes ∙ sym (z (calling 0 tied) (passes-0 tied refl)) ∙ forced-after x h (calling 0 tied) _ (passes-0 tied refl) p9)
 
 zero-word-3 : Rejected ZeroWord Demand3
 zero-word-3 x z h =
     unequal _ _ 0 4 refl refl (λ e. omega arith)
-    (sym zero-bytes ∙ sym (z (calling 0 other) (passes-0 other refl)) ∙ returned x h (calling 0 other) 0x6004 (passes-0 other refl) sent-other margin-other .writes ∙ other-bytes)
+    (sym zero-bytes ∙ sym (z (calling 0 other) (passes-0 other refl))
+    ∙ returned x h (calling 0 other) 0x6004 (passes-0 other refl) sent-other margin-other .writes ∙ other-bytes)
 
 writes-nothing-2 : Rejected WritesNothing Demand2
-writes-nothing-2 x z h = unequal _ _ 255 0 refl refl (λ e. omega arith) (sym (z (calling 0 clean)) ∙ forced-after x h (calling 0 clean) _ (passes-0 clean refl) p5)
+writes-nothing-2 x z h =
+    unequal _ _ 255 0 refl refl (λ e. omega arith)
+    (sym (z (calling 0 clean)) ∙ forced-after x h (calling 0 clean) _ (passes-0 clean refl) p5)
 
 unflipped-only-2 : Rejected UnflippedOnly Demand2
 unflipped-only-2 x z h =

@@ -14,7 +14,8 @@ use Rattle.demands.proofs.OursAnswer.{encoding-answers}
 use Rattle.demands.proofs.SettledWords.{other-among}
 
 -- what ours give is what the contracts permit
-encoded-so : (m t s message : ℕ) (after : List ℕ) → encodingOf m t s message lent ≡ record { answer = 0; after = after } → EncodeAnswers m t s message lent 0 after
+encoded-so : (m t s message : ℕ) (after : List ℕ)
+    → encodingOf m t s message lent ≡ record { answer = 0; after = after } → EncodeAnswers m t s message lent 0 after
 encoded-so m t s message after e =
     subst (λ (y : Encoding). EncodeAnswers m t s message lent (y .answer) (y .after)) e (encoding-answers m t s message lent)
 

@@ -1,6 +1,7 @@
 -- Demand 1: "Every input gets an answer that the papers fix. Unknown code, wrong count of values, short buffer, order too high: each is
 -- refused under its own number, nothing is written, and no caller has to check first." The numbers and which comes first are document
--- 01's table: `encodeRefusal`, `readRefusal` (frame/specs/Refusal) and `checksOf` give the first that applies, 0 where none does.
+-- 01's table: `encodeRefusal`, `readRefusal` (frame/specs/Refusal) and `checksOf` give the first that applies, 0 where none does. It is
+-- asked of every input whatever; that the compiled functions ask nothing of a caller is in proofs/CompiledCalls.
 --   EncodeFixed, ReadFixed, DecodeFixed   the answer of a call, on one input, is fixed so
 --   Demand1 x                             on every input, for all three calls
 -- Assumes nothing.

@@ -1,7 +1,8 @@
 -- Demand 3: "Suppose a codeword was sent, zero in every unsent place, and at most 2t of its bits, e of them, were sliced wrongly, no more
 -- of those in the reliable set than the order allows. If the reliabilities at the wrong bits sum to less than the 2t+1-e smallest
 -- reliabilities at the right bits, the decoder returns that codeword and no other." It "speaks of a decode call that passes checks 1 to
--- 5; unsent positions are among its right bits, with their 127" (document 01).
+-- 5; unsent positions are among its right bits, with their 127" (document 01). Whatever meets demand 2 meets it (Demands,
+-- SecondGivesThird), for every code, shortening and order: the code has nothing further to show.
 --   wrongBits c w   e, at how many places the word w that was sent differs from the hard decisions
 --   wrongSum c w    the sum of the reliabilities there
 --   rightSum c w    the sum of the 2t+1-e smallest reliabilities at the other places

@@ -1,9 +1,10 @@
 -- Read this first: the customer's three demands, and what is claimed of them. A demand is made of any encoder, reader and decoder
 -- whatever (Calls) and stands in the customer's words in a file of its own: Demand1 (every input gets an answer that the papers fix),
 -- Demand2 (words, messages, the nearest codeword, the count), Demand3 (what was sent comes back). Each claim is proved under its name in
--- proofs/Theorems; Rejected has the versions that must not pass, Settled the paper's examples, OneAnswer that contracts permit one answer.
+-- proofs/Theorems, which goes on to the compiled functions: they give back what ours give. Rejected has the versions that must not
+-- pass, Settled the paper's examples, OneAnswer that the contracts permit one answer.
 --   Demands x                the three demands
---   ContractsMeetDemands     whatever keeps the contracts of encode, read and decode meets the demands: so does the code, which keeps them
+--   ContractsMeetDemands     whatever keeps the contracts of encode, read and decode meets the demands
 --   OursMeetDemands          the functions that the three calls compute meet them
 --   DemandsAreContracts      and what meets demands 1 and 2 keeps the contracts: the demands ask no less
 --   NothingElseMeetsThem     so it gives what ours give

@@ -43,7 +43,7 @@ module _ (m : ℕ) (soft : List ℤ) where
   rank-one : (p q : ℕ) → p < lengthOf m → q < lengthOf m → rankOf m soft p ≡ rankOf m soft q → p ≡ q
   rank-one p q hp hq e =
       by-cases (ℕ-discrete p q) (λ d. d)
-      (λ d. absurd (⊎-elim (λ h. let l = rank-rises p q hp h in omega arith) (λ h. let l = rank-rises q p hq h in omega arith) (before-one soft p q d)))
+      (λ d. absurd (⊎-elim (λ h. omega (arith, rank-rises p q hp h)) (λ h. omega (arith, rank-rises q p hq h)) (before-one soft p q d)))
 
   abbrev R : ℕ → ℕ
   R i = getD (positions m soft) i 0
