@@ -4,6 +4,7 @@ pub mod Pigeon
 pub mod RootLaws
 pub mod LagrangeLaws
 pub mod ShortForm
+pub mod ShortQuotient
 pub mod PlacesFixWord
 pub mod PolynomialLaws
 pub mod Conjugates

@@ -1,1 +1,2 @@
 pub mod TableLaws
+pub mod ExponentTableLaws

@@ -1,5 +1,6 @@
 // Field arithmetic on elements of the fields of 2^m elements, m = 4, 5, 6 (document 01, "Fields and codes").
-mod tables;
+pub mod exponents; // powers, and Zech's logarithms
+mod tables; // the inverses
 
 ghost use mathlib.Core.Path.{_≡_};
 ghost use Prim.Native.Nat.{_^_, _<_, _≤_};

@@ -1,5 +1,5 @@
 pub mod StoreLaws
 pub mod RankLaws
-pub mod PointLaws
-pub mod TableLaws
+pub mod ExponentLaws
+pub mod RowSumLaws
 pub mod PreparedWord

@@ -1,17 +1,21 @@
 -- A word that is made of its parts is prepared, and its numbers are in their ranges. Assumes nothing.
 use mathlib.Core.Path.{_≡_, refl, sym, ap, ap₂, subst, _∙_}
 use mathlib.Core.List.{List}
-use Prim.Native.Nat.{ℕ, _+_, _-_, _*_, _/_, _^_, _<_, _≤_}
+use Prim.Native.Nat.{ℕ, zero, suc, _+_, _-_, _*_, _/_, _^_, _<_, _≤_}
+use native.Mathlib.Nat.{le-refl}
+use native.Mathlib.Decide.{ℕ-discrete}
 use native.Mathlib.Omega.{arith}
 use lib.IntN.{ℤ}
 use lib.ListN.{length, getD}
-use Rattle.field.specs.Field.{alphaTo, lengthOf}
+use Rattle.field.specs.Field.{times, inverseOf, alphaTo, lengthOf}
 use Rattle.field.specs.Laws.{Laws}
 use Rattle.field.proofs.FieldLaws.{laws}
 use Rattle.codes.proofs.ShapeLaws.{length-small, roots-fit}
 use Rattle.codes.specs.Word.{bitOf, wordOf}
 use Rattle.codes.specs.Code.{Known}
+use Rattle.codes.specs.Lagrange.{Places, unless, others, productOver, cell, spread, shortCell}
 use Rattle.codes.proofs.WordLaws.{bit-lt, bit-word, word-lt}
+use Rattle.codes.proofs.ShortForm.{cell-is-short}
 use Rattle.soft.specs.Value.{hard}
 use Rattle.soft.specs.Order.{Sorted}
 use Rattle.search.specs.Plan.{Fits, Prepares}
@@ -20,31 +24,57 @@ use Rattle.search.proofs.BestIsNearest.{hard-lt}
 use Rattle.ranks.specs.Places.{placeIn}
 use Rattle.ranks.specs.Receives.{Receives}
 use Rattle.ranks.specs.Ordered.{Ordered}
+use Rattle.ranks.specs.declared.Position.{Position}
 use Rattle.ranks.specs.declared.values.Received.{Received}
 use Rattle.ranks.proofs.SortedOrder.{sorted-order}
 use Rattle.prepare.specs.declared.Prepared.{Prepared}
 use Rattle.prepare.specs.PlanOf.{planOf}
-use Rattle.prepare.specs.Inner.ByRank.{Powers, Gathered, ranked}
-use Rattle.prepare.specs.Inner.Table.{Rows, RowSums, rowSum}
+use Rattle.prepare.specs.declared.by_rank.ByRank.{ByRank}
+use Rattle.prepare.specs.Inner.ByRank.{Gathers, ranked}
+use Rattle.prepare.specs.Inner.Exponents.{outsideOf}
+use Rattle.prepare.specs.Inner.Table.{Cells, RowSums, rowSum}
 use Rattle.prepare.proofs.RankLaws.{word-above, word-cong}
-use Rattle.prepare.proofs.PointLaws.{cell-is, symbol-is}
+use Rattle.prepare.proofs.RowSumLaws.{symbol-is}
 
--- the parts, as the inner functions make them: the powers, the points and the bits by rank are made on the way
-pub record Parts (m t n : ℕ) (r : Received) (alphas elements : List ℕ) (word : ℕ) (p : Prepared) : Type 0 where
+-- a cell depends on the places outside alone, and on its own
+others-cong : (X Y : ℕ → ℕ) (k o : ℕ) → ((v : ℕ) → v < k → X v ≡ Y v) → others X k o ≡ others Y k o
+unfolding others
+others-cong X Y zero o h = refl
+others-cong X Y (suc k) o h = ap₂ (unless (ℕ-discrete k o)) (h k (le-refl (suc k))) (others-cong X Y k o (λ v l. h v (omega arith)))
+
+short-cong : (m b r : ℕ) (U W : ℕ → ℕ) (o p q : ℕ) → o < r → ((v : ℕ) → v < r → U v ≡ W v) → p ≡ q → shortCell m b r U o p ≡ shortCell m b r W o q
+unfolding shortCell spread
+short-cong m b r U W o p q ho h e =
+    let same = others-cong (λ v. alphaTo m (U v)) (λ v. alphaTo m (W v)) r o (λ v l. ap (alphaTo m) (h v l)) in
+    let at : (x : ℕ) → List ℕ → ℕ = λ x vs. productOver m (alphaTo m x) (alphaTo m (x * b)) vs in
+    ap₂ (λ (x y : ℕ). times m x (inverseOf m y)) (ap₂ at e same) (ap₂ at (h o ho) same)
+
+-- the positions by rank, as they are gathered, are all positions, each once
+pub places-each : (m n : ℕ) → 4 ≤ m → m ≤ 6 → n ≡ lengthOf m → (soft : List ℤ) (r : Received) → Receives soft r → (order : List Position)
+    → Ordered (r .reliability) n order → (b : ByRank) → Gathers n (r .reliability) (r .hards) order b → Places m n (λ i. getD (b .places) i 0)
+places-each m n a c long soft r got order o b g =
+    let small : n ≤ 63 = omega (arith, length-small m a c) in
+    let all = sorted-order m soft r order got n long small o .order .places in
+    let at : (i : ℕ) → i < n → i < lengthOf m = λ i l. omega arith in
+    record {
+      inside = λ i l. omega (arith, g .places i l, o .inside i l);
+      apart = λ i j hi hj e. all .apart i j (at i hi) (at j hj) (sym (g .places i hi) ∙ e ∙ g .places j hj);
+    }
+
+-- the parts, as the inner functions make them: what is by rank is made on the way
+pub record Parts (m t n : ℕ) (r : Received) (b : ByRank) (p : Prepared) : Type 0 where
   pub size : p .size ≡ lengthOf m - 2 * t
   pub rows : p .rows ≡ 2 * t
   pub hards : unpacked (p .hards) 8 ≡ r .hards
   pub order : Ordered (r .reliability) n (p .order)
-  pub powers : Powers m n alphas
-  pub points : Gathered n alphas (p .order) elements
-  pub weight : Gathered n (r .reliability) (p .order) (p .weight)
-  pub bits : word ≡ ranked n (r .hards) (p .order)
-  pub sides : p .sides ≡ word / 2 ^ p .size
-  pub symbols : Rows m elements (p .size) (p .rows) (p .rows) (p .symbols)
-  pub base : RowSums (p .symbols) word (p .size) (p .rows) (p .base)
+  pub ranks : Gathers n (r .reliability) (r .hards) (p .order) b
+  pub weight : p .weight ≡ b .weight
+  pub sides : p .sides ≡ b .bits / 2 ^ p .size
+  pub symbols : Cells m (p .size) (p .rows) (b .places) (p .symbols)
+  pub base : RowSums (p .symbols) (b .bits) (p .size) (p .base)
 
 module _ (m t : ℕ) (known : Known m t) (n : ℕ) (long : n ≡ lengthOf m) (soft : List ℤ) (short : length soft ≤ lengthOf m)
-    (r : Received) (got : Receives soft r) (alphas elements : List ℕ) (word : ℕ) (p : Prepared) (parts : Parts m t n r alphas elements word p) where
+    (r : Received) (got : Receives soft r) (b : ByRank) (p : Prepared) (parts : Parts m t n r b p) where
   abbrev L : ℕ
   L = lengthOf m
 
@@ -63,8 +93,8 @@ module _ (m t : ℕ) (known : Known m t) (n : ℕ) (long : n ≡ lengthOf m) (so
   fit : 2 * t ≤ L
   fit = roots-fit m t known
 
-  made : Parts m t L r alphas elements word p
-  made = subst (λ (u : ℕ). Parts m t u r alphas elements word p) long parts
+  made : Parts m t L r b p
+  made = subst (λ (u : ℕ). Parts m t u r b p) long parts
 
   sorted : Sorted m soft R
   sorted = sorted-order m soft r (p .order) got L refl small (made .order)
@@ -75,10 +105,10 @@ module _ (m t : ℕ) (known : Known m t) (n : ℕ) (long : n ≡ lengthOf m) (so
   hard-at : (i : ℕ) → i < L → bitOf (r .hards) (R i) ≡ hard soft (R i)
   hard-at i l = ap (λ (u : ℕ). bitOf u (R i)) (got .hards L short) ∙ bit-word L (hard soft) (λ q _. hard-lt soft q) (R i) (made .order .inside i l)
 
-  bit-at : (i : ℕ) → i < L → bitOf word i ≡ bitOf (unpacked (p .hards) 8) (R i)
+  bit-at : (i : ℕ) → i < L → bitOf (b .bits) i ≡ bitOf (unpacked (p .hards) 8) (R i)
   unfolding ranked
   bit-at i l =
-      ap (λ (u : ℕ). bitOf u i) (made .bits)
+      ap (λ (u : ℕ). bitOf u i) (made .ranks .bits)
       ∙ bit-word L (λ j. bitOf (r .hards) (R j)) (λ j _. bit-lt (r .hards) (R j)) i l
       ∙ ap (λ (u : ℕ). bitOf u (R i)) (sym (made .hards))
 
@@ -87,18 +117,24 @@ module _ (m t : ℕ) (known : Known m t) (n : ℕ) (long : n ≡ lengthOf m) (so
   sides =
       let e : L ≡ K + 2 * t = omega (arith, fit) in
       made .sides
-      ∙ ap₂ (λ (u s : ℕ). u / 2 ^ s) (made .bits) (made .size)
+      ∙ ap₂ (λ (u s : ℕ). u / 2 ^ s) (made .ranks .bits) (made .size)
       ∙ ap (λ (u : ℕ). wordOf u (λ i. bitOf (r .hards) (R i)) / 2 ^ K) e
       ∙ word-above K (2 * t) (λ i. bitOf (r .hards) (R i)) (λ i _. bit-lt (r .hards) (R i))
       ∙ word-cong (2 * t) (λ q. bitOf (r .hards) (R (K + q))) (λ q. hard soft (R (K + q))) (λ q l. hard-at (K + q) (omega (arith, fit)))
 
-  point-at : (i : ℕ) → i < L → getD elements i 0 ≡ alphaTo m (R i)
-  point-at i l = made .points i l ∙ made .powers (R i) (made .order .inside i l)
+  place-at : (i : ℕ) → i < L → getD (b .places) i 0 ≡ R i
+  place-at = made .ranks .places
 
-  table : Rows m elements K (2 * t) (2 * t) (p .symbols)
-  table =
-      subst (λ (u : ℕ). Rows m elements K u u (p .symbols)) (made .rows)
-      (subst (λ (u : ℕ). Rows m elements u (p .rows) (p .rows) (p .symbols)) (made .size) (made .symbols))
+  cell-at : (q j : ℕ) → q < 2 * t → j < K → getD (p .symbols) (q * 63 + j) 0 ≡ cell m (1 - 1) R K j (R (K + q))
+  cell-at q j hq hj =
+      let cells : Cells m K (2 * t) (b .places) (p .symbols) =
+      subst (λ (u : ℕ). Cells m K u (b .places) (p .symbols)) (made .rows) (subst (λ (u : ℕ). Cells m u (p .rows) (b .places) (p .symbols)) (made .size) (made .symbols)) in
+      cells q j hq hj
+      ∙ short-cong m 1 (2 * t) (outsideOf K (b .places)) (λ v. R (K + v)) q (getD (b .places) j 0) (R j) hq (λ v l. place-at (K + v) (omega (arith, fit))) (place-at j (omega arith))
+      ∙ sym (cell-is-short m F 1 (2 * t) (le-refl 1) R (sorted .order) fit j q hj hq)
+
+  weight-at : (i : ℕ) → i < L → getD (p .weight) i 0 ≡ getD (r .reliability) (R i) 0
+  weight-at i l = ap (λ (u : List ℕ). getD u i 0) (made .weight) ∙ made .ranks .weight i l
 
   plan-prepares : Prepares m 1 (2 * t) soft (planOf p)
   plan-prepares = record {
@@ -108,10 +144,10 @@ module _ (m t : ℕ) (known : Known m t) (n : ℕ) (long : n ≡ lengthOf m) (so
     hards = hards;
     sides = sides;
     base = λ q l.
-        made .base q (omega (arith, made .rows)) ∙ ap (λ (u : ℕ). rowSum (p .symbols) word u q) (made .size)
-        ∙ symbol-is m F (2 * t) R (sorted .order) fit elements point-at (p .symbols) word (unpacked (p .hards) 8) q l (table .cells q l) (λ j lj. bit-at j (omega arith));
-    weight = λ i l. made .weight i l ∙ got .reliabilities (R i) (made .order .small i);
-    column = λ q j hq hj. table .cells q hq j hj ∙ cell-is m F (2 * t) R (sorted .order) fit elements point-at q j hq hj;
+        made .base q (omega (arith, known .t-high)) ∙ ap (λ (u : ℕ). rowSum (p .symbols) (b .bits) u q) (made .size)
+        ∙ symbol-is m F (2 * t) R (p .symbols) (b .bits) (unpacked (p .hards) 8) q (λ j lj. cell-at q j l lj) (λ j lj. bit-at j (omega arith));
+    weight = λ i l. weight-at i l ∙ got .reliabilities (R i) (made .order .small i);
+    column = cell-at;
   }
 
   plan-fits : Fits (planOf p)
@@ -123,7 +159,7 @@ module _ (m t : ℕ) (known : Known m t) (n : ℕ) (long : n ≡ lengthOf m) (so
         (subst (λ (u : ℕ). u < 2 ^ (2 * t)) (sym sides) (word-lt (2 * t) (λ q. hard soft (R (K + q))) (λ q _. hard-lt soft (R (K + q)))));
     places = λ i _. made .order .small i;
     weights = λ i l.
-        let e = made .weight i (omega (arith, fit, made .size, made .rows)) in
+        let e = weight-at i (omega (arith, fit, made .size, made .rows)) in
         omega (arith, got .small (R i) (made .order .small i));
   }
 

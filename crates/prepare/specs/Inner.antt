@@ -1,3 +1,4 @@
 -- What only the contracts of the inner functions cite. Assumes nothing.
 pub mod ByRank
+pub mod Exponents
 pub mod Table

@@ -1,50 +1,35 @@
-// What is by position, by rank: values, and the bits of a word.
-ghost use mathlib.Core.Path.{_≡_};
+// What is by position, by rank.
 ghost use Prim.Native.Nat.{_≤_};
-ghost use Rattle.prepare.specs.Inner.ByRank.{Powers, Inside, Gathered, ranked};
+ghost use Rattle.prepare.specs.Inner.ByRank.{Inside, Gathers};
 use ranks::Position;
 
-// a^0, .., a^(n-1)
-pub fn powers(m: u8, n: usize) -> [u8; 63]
-    requires { ⌜ (4 ≤ m) × (m ≤ 6) × (n ≤ 63) ⌝ }
-    ensures { λ r. ⌜ Powers m n r ⌝ }
-{
-    let mut list = [0u8; 63];
-    let mut power: u8 = 1;
-    let mut i = 0;
-    while i < n {
-        list[i] = power;
-        power = gf::double(m, power);
-        i += 1;
-    }
-    list
+// The position and the reliability of each rank, and the hard decisions, bit i for rank i.
+pub struct ByRank {
+    pub places: [u8; 63],
+    pub weight: [u8; 63],
+    pub bits: u64,
 }
 
-// the values of the positions, by rank
-pub fn values_by_rank(values: [u8; 63], order: [Position; 63], n: usize) -> [u8; 63]
+// All in one pass, from the last rank to the first: each bit goes in below those of the ranks after it.
+pub fn gather(order: [Position; 63], reliability: &[u8; 63], hards: u64, n: usize) -> ByRank
     requires { ⌜ (n ≤ 63) × Inside n order ⌝ }
-    ensures { λ r. ⌜ Gathered n values order r ⌝ }
+    ensures { λ r. ⌜ Gathers n (now (reliability .entry)) hards order r ⌝ }
 {
-    let mut list = [0u8; 63];
-    let mut i = 0;
-    while i < n {
-        let p = order[i].0 as usize;
-        list[i] = values[p];
-        i += 1;
-    }
-    list
-}
-
-// the bits of a word, by rank: from the last rank to the first
-pub fn bits_by_rank(word: u64, order: [Position; 63], n: usize) -> u64
-    requires { ⌜ (n ≤ 63) × Inside n order ⌝ }
-    ensures { λ r. ⌜ r ≡ ranked n word order ⌝ }
-{
+    let mut places = [0u8; 63];
+    let mut weight = [0u8; 63];
     let mut bits: u64 = 0;
     let mut i = n;
     while 0 < i {
         i -= 1;
-        bits = bits * 2 + (word >> order[i].0) % 2;
+        let p = order[i].0;
+        let at = p as usize;
+        places[i] = p;
+        weight[i] = reliability[at];
+        bits = bits * 2 + (hards >> at) % 2;
     }
-    bits
+    ByRank {
+        places,
+        weight,
+        bits,
+    }
 }

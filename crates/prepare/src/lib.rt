@@ -1,5 +1,6 @@
 // A word that is prepared: what stays for all patterns, made once a word.
 mod by_rank; // what is by position, by rank
+mod exponents; // products as sums of exponents
 mod table; // the symbol table
 mod unflipped; // the symbols of the unflipped pattern
 
@@ -60,13 +61,13 @@ pub fn prepare(m: u8, t: u8, soft: &[i8]) -> Prepared
     let hards = received.hards;
     let reliability = received.reliability;
     let order = ranks::order::order_of(reliability, n);
-    let weight = by_rank::values_by_rank(reliability, order, n);
-    let bits = by_rank::bits_by_rank(hards, order, n);
+    let ranked = by_rank::gather(order, &reliability, hards, n);
+    let places = ranked.places;
+    let weight = ranked.weight;
+    let bits = ranked.bits;
     let sides = bits >> size;
-    let powers = by_rank::powers(m, n);
-    let points = by_rank::values_by_rank(powers, order, n);
-    let symbols = table::symbol_table(m, points, size, rows);
-    let base = unflipped::row_sums(symbols, bits, size, rows);
+    let symbols = table::symbol_table(m, &places, n, size, rows);
+    let base = unflipped::row_sums(&symbols, bits, size);
     let bytes = bytes_of(hards);
     Prepared {
         size: size as u8,

@@ -1,60 +1,84 @@
-// The symbol table, from the points: the elements a^p of the positions p, by rank.
+// The symbol table, by exponents. A cell is a quotient of products over the places outside (codes/specs/Lagrange, `shortCell`). The
+// factors a^u that their sums have by Zech's logarithms z are the same above and below: the exponent of the cell of position p, in
+// the row of the place u, is e(p) - e(u) - z(p-u), with e as exponents.rt makes it.
+use crate::exponents;
 ghost use mathlib.Core.Path.{_≡_};
-ghost use Prim.Native.Nat.{_+_, _<_};
-ghost use Rattle.prepare.specs.Inner.Table.{Points, pointSpread, Rows};
+ghost use Prim.Native.Nat.{_<_, _≤_};
+ghost use lib.ListN.{length};
+ghost use Rattle.prepare.specs.Inner.Exponents.{Below, Outside};
+ghost use Rattle.prepare.specs.Inner.Table.{PutsRow, CellExponents, PutsColumn, Numbered, Cells};
 
-// The product of the point at rank i and of its sums with the points outside, without that of row o.
-fn spread(m: u8, points: [u8; 63], size: usize, rows: usize, o: usize, i: usize) -> u8
-    requires { ⌜ Points m points size rows × (i < size + rows) ⌝ }
-    ensures { λ r. ⌜ r ≡ pointSpread m points size rows o i ⌝ }
+// Row q's exponents, of every position: n keeps the difference from going below 0, so that it is below 2n. The row's place has the
+// exponent `own`, and `from` is where its run of Zech's logarithms starts.
+fn put_row(
+    zech: &[u8; 128],
+    list: &[u8; 64],
+    n: u8,
+    from: usize,
+    own: u8,
+    q: usize,
+    rows: &mut [u8; 384],
+)
+    requires { ⌜ (n ≤ 63) × (from ≤ 63) × (own < n) × (q < 6) × Below n 128 (now zech) × Below n 64 (now list) ⌝ }
+    requires { ⌜ (length (now rows) ≡ 384) × Below 128 384 (now rows) ⌝ }
+    ensures { λ _. ⌜ PutsRow n from own q (now (zech .entry)) (now (list .entry)) (now (rows .entry)) (now (rows .exit)) ⌝ }
 {
-    let x = points[i];
-    let mut product = x;
-    let mut v = 0;
-    while v < rows {
-        if v != o {
-            product = gf::times(m, x ^ points[size + v], product);
-        }
-        v += 1;
+    let mut p = 0;
+    while p < 64 {
+        let less = exponents::plus(n, own, zech[from + p]);
+        rows[q * 64 + p] = list[p] + n - less;
+        p += 1;
     }
-    product
-}
-
-// The table with row o in it: what a 1 at each reliable rank adds to the row's symbol.
-fn with_row(
-    m: u8,
-    points: [u8; 63],
-    size: usize,
-    rows: usize,
-    o: usize,
-    table: [u8; 378],
-) -> [u8; 378]
-    requires { ⌜ Points m points size rows × (o < rows) × Rows m points size rows o table ⌝ }
-    ensures { λ r. ⌜ Rows m points size rows (o + 1) r ⌝ }
-{
-    let mut list = table;
-    let own = spread(m, points, size, rows, o, size + o);
-    let scale = gf::inverse(m, own);
-    let mut j = 0;
-    while j < size {
-        let at = spread(m, points, size, rows, o, j);
-        list[o * 63 + j] = gf::times(m, at, scale);
-        j += 1;
-    }
-    list
 }
 
 // All rows.
-pub fn symbol_table(m: u8, points: [u8; 63], size: usize, rows: usize) -> [u8; 378]
-    requires { ⌜ Points m points size rows ⌝ }
-    ensures { λ r. ⌜ Rows m points size rows rows r ⌝ }
+fn cell_exponents(
+    zech: &[u8; 128],
+    places: &[u8; 63],
+    n: usize,
+    size: usize,
+    rows: usize,
+) -> [u8; 384]
+    requires { ⌜ Outside n size rows (now places) × Below n 128 (now zech) ⌝ }
+    ensures { λ r. ⌜ CellExponents n size (now (zech .entry)) (now (places .entry)) rows rows r ⌝ }
 {
-    let mut list = [0u8; 378];
-    let mut o = 0;
-    while o < rows {
-        let next = with_row(m, points, size, rows, o, list);
-        list = next;
-        o += 1;
+    let mut table = [0u8; 384];
+    let list = exponents::of_positions(zech, places, n, size, rows);
+    let mut q = 0;
+    while q < rows {
+        let u = places[size + q] as usize;
+        let own = list[u];
+        put_row(zech, &list, n as u8, n - u, own, q, &mut table);
+        q += 1;
     }
-    list
+    table
+}
+
+// The column of rank j, at position p. All six rows, used or not: their number is known, so that the loop is unrolled.
+fn put_column(powers: &[u8; 128], exponents: &[u8; 384], p: usize, j: usize, table: &mut [u8; 378])
+    requires { ⌜ (p < 64) × (j < 63) × Below 128 384 (now exponents) × (length (now table) ≡ 378) ⌝ }
+    ensures { λ _. ⌜ PutsColumn p j (now (powers .entry)) (now (exponents .entry)) (now (table .entry)) (now (table .exit)) ⌝ }
+{
+    let mut q = 0;
+    while q < 6 {
+        table[q * 63 + j] = powers[exponents[q * 64 + p] as usize];
+        q += 1;
+    }
+}
+
+// All columns.
+pub fn symbol_table(m: u8, places: &[u8; 63], n: usize, size: usize, rows: usize) -> [u8; 378]
+    requires { ⌜ Numbered m n size rows (now places) ⌝ }
+    ensures { λ r. ⌜ Cells m size rows (now (places .entry)) r ⌝ }
+{
+    let mut table = [0u8; 378];
+    let powers = gf::exponents::powers(m);
+    let zech = gf::exponents::zech(m);
+    let exponents = cell_exponents(&zech, places, n, size, rows);
+    let mut j = 0;
+    while j < size {
+        put_column(&powers, &exponents, places[j] as usize, j, &mut table);
+        j += 1;
+    }
+    table
 }

@@ -1,34 +1,34 @@
 // The symbols of the unflipped pattern: the sums of the table's cells at the hard decisions that are 1.
 ghost use mathlib.Core.Path.{_≡_};
 ghost use Prim.Native.Nat.{_≤_, _<_};
-ghost use Rattle.prepare.specs.Inner.Table.{rowSum, RowSums};
+ghost use lib.ListN.{length};
+ghost use Rattle.prepare.specs.Inner.Table.{AddsColumn, RowSums};
 
-// The sum of the cells of row q at the set bits.
-fn row_sum(symbols: [u8; 378], bits: u64, size: usize, q: usize) -> u8
-    requires { ⌜ (size ≤ 63) × (q < 6) ⌝ }
-    ensures { λ r. ⌜ r ≡ rowSum symbols bits size q ⌝ }
+// The sums with the column of rank j added, in all six rows, used or not.
+fn plus_column(symbols: &[u8; 378], j: usize, mut sums: [u8; 6]) -> [u8; 6]
+    requires { ⌜ (j < 63) × (length sums ≡ 6) ⌝ }
+    ensures { λ r. ⌜ AddsColumn j (now (symbols .entry)) sums r ⌝ }
 {
-    let mut sum: u8 = 0;
-    let mut j = 0;
-    while j < size {
-        if (bits >> j) % 2 == 1 {
-            sum = sum ^ symbols[q * 63 + j];
-        }
-        j += 1;
-    }
-    sum
-}
-
-// The sums of all rows.
-pub fn row_sums(symbols: [u8; 378], bits: u64, size: usize, rows: usize) -> [u8; 6]
-    requires { ⌜ (size ≤ 63) × (rows ≤ 6) ⌝ }
-    ensures { λ r. ⌜ RowSums symbols bits size rows r ⌝ }
-{
-    let mut list = [0u8; 6];
     let mut q = 0;
-    while q < rows {
-        list[q] = row_sum(symbols, bits, size, q);
+    while q < 6 {
+        sums[q] = sums[q] ^ symbols[q * 63 + j];
         q += 1;
     }
-    list
+    sums
+}
+
+// The sums of all rows, over the set bits below `size`.
+pub fn row_sums(symbols: &[u8; 378], bits: u64, size: usize) -> [u8; 6]
+    requires { ⌜ size ≤ 63 ⌝ }
+    ensures { λ r. ⌜ RowSums (now (symbols .entry)) bits size r ⌝ }
+{
+    let mut sums = [0u8; 6];
+    let mut rest = bits % (1u64 << size);
+    while rest != 0 {
+        let j = u64::trailing_zeros(rest) as usize;
+        let next = plus_column(symbols, j, sums);
+        sums = next;
+        rest = rest & (rest - 1);
+    }
+    sums
 }

@@ -1,43 +1,55 @@
--- The symbol table by points: a point is the element a^p of the position p, and the list has them by rank, the reliable set first
--- and then the places outside, `rows` of them. Everything but the records computes.
---   Points                a list of points in the ranges of every code
---   pointSpread           `spread` of codes/specs/Lagrange for the first root a^1, by points
---   pointCell             `shortCell` likewise: what a 1 at rank j adds to the symbol of row o
---   Cells, Rows           the first cells of a row, and the first rows, stand at their places
---   rowSum, RowSums       the sum of a row's cells at the set bits, and the first rows' sums as a list
+-- The symbol table by exponents, and its row sums.
+--   PutsRow, CellExponents   a row of exponents is put, and the first k rows of them are in their places
+--   PutsColumn               a column of the table is put, each cell the power of its exponent
+--   Numbered                 the ranks' positions are those of a code, each once, in the ranges of every code
+--   Cells                    the table: what a 1 at rank j adds to the symbol of row o, by the short form
+--   AddsColumn, rowSum, RowSums   the sum of a row's cells at the set bits, and all rows' sums as a list
 -- Assumes nothing.
 use mathlib.Core.Path.{_≡_}
+use mathlib.Core.Logic.{_≢_}
 use mathlib.Core.List.{List}
-use Prim.Native.Nat.{ℕ, _+_, _*_, _^_, _<_, _≤_}
+use Prim.Native.Nat.{ℕ, _+_, _-_, _*_, _%_, _<_, _≤_}
 use lib.ListN.{length, getD}
-use Rattle.field.specs.Field.{times, inverseOf}
+use Rattle.field.specs.Field.{_⊕_, lengthOf}
+use Rattle.codes.specs.Lagrange.{Places, shortCell}
 use Rattle.search.specs.ByRank.{xorBits}
-use Rattle.codes.specs.Lagrange.{others, productOver}
+use Rattle.prepare.specs.Inner.Exponents.{Below, outsideOf, cellExponent}
 
-pub record Points (m : ℕ) (points : List ℕ) (size rows : ℕ) : Type 0 where
+pub record PutsRow (n from own q : ℕ) (zech list before after : List ℕ) : Type 0 where
+  pub full : length after ≡ 384
+  pub below : Below 128 384 after
+  pub row : (p : ℕ) → p < 64 → getD after (q * 64 + p) 0 ≡ getD list p 0 + n - (own + getD zech (from + p) 0) % n
+  pub rest : (i : ℕ) → i < q * 64 → getD after i 0 ≡ getD before i 0
+
+pub record CellExponents (n size : ℕ) (zech places : List ℕ) (rows k : ℕ) (l : List ℕ) : Type 0 where
+  pub full : length l ≡ 384
+  pub below : Below 128 384 l
+  pub right : (o p : ℕ) → o < k → p < n → getD l (o * 64 + p) 0 ≡ cellExponent n size zech places rows o p
+
+pub record PutsColumn (p j : ℕ) (powers exponents before after : List ℕ) : Type 0 where
+  pub full : length after ≡ 378
+  pub column : (q : ℕ) → q < 6 → getD after (q * 63 + j) 0 ≡ getD powers (getD exponents (q * 64 + p) 0) 0
+  pub rest : (q i : ℕ) → i < 63 → i ≢ j → getD after (q * 63 + i) 0 ≡ getD before (q * 63 + i) 0
+
+pub record Numbered (m n size rows : ℕ) (places : List ℕ) : Type 0 where
   pub m-low : 4 ≤ m
   pub m-high : m ≤ 6
   pub few : rows ≤ 6
-  pub all : size + rows ≤ 63
-  pub elements : (i : ℕ) → i < size + rows → getD points i 0 < 2 ^ m
+  pub long : n ≡ lengthOf m
+  pub all : size + rows ≡ n
+  pub each : Places m n (λ i. getD places i 0)
 
-module _ (m : ℕ) (points : List ℕ) (size rows : ℕ) where
-  -- the point at rank i times the product of its sums with the points outside, without that of row o
-  unfoldable pub pointSpread : ℕ → ℕ → ℕ
-  pointSpread o i = productOver m (getD points i 0) (getD points i 0) (others (λ v. getD points (size + v) 0) rows o)
+abbrev pub Cells : ℕ → ℕ → ℕ → List ℕ → List ℕ → Type 0
+Cells m size rows places l =
+    (o j : ℕ) → o < rows → j < size → getD l (o * 63 + j) 0 ≡ shortCell m 1 rows (outsideOf size places) o (getD places j 0)
 
-  unfoldable pub pointCell : ℕ → ℕ → ℕ
-  pointCell o j = times m (pointSpread o j) (inverseOf m (pointSpread o (size + o)))
-
-  abbrev pub Cells : ℕ → ℕ → List ℕ → Type 0
-  Cells o k l = (j : ℕ) → j < k → getD l (o * 63 + j) 0 ≡ pointCell o j
-
-  pub record Rows (k : ℕ) (l : List ℕ) : Type 0 where
-    pub full : length l ≡ 378
-    pub cells : (o : ℕ) → o < k → Cells o size l
+-- a column is added to the rows' sums
+pub record AddsColumn (j : ℕ) (symbols before after : List ℕ) : Type 0 where
+  pub full : length after ≡ 6
+  pub sums : (q : ℕ) → q < 6 → getD after q 0 ≡ getD before q 0 ⊕ getD symbols (q * 63 + j) 0
 
 unfoldable pub rowSum : List ℕ → ℕ → ℕ → ℕ → ℕ
 rowSum symbols bits size q = xorBits (λ j. getD symbols (q * 63 + j) 0) size bits
 
-abbrev pub RowSums : List ℕ → ℕ → ℕ → ℕ → List ℕ → Type 0
-RowSums symbols bits size k l = (q : ℕ) → q < k → getD l q 0 ≡ rowSum symbols bits size q
+abbrev pub RowSums : List ℕ → ℕ → ℕ → List ℕ → Type 0
+RowSums symbols bits size l = (q : ℕ) → q < 6 → getD l q 0 ≡ rowSum symbols bits size q

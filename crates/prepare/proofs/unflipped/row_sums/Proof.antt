@@ -1,47 +1,63 @@
--- `unflipped::row_sums` meets its contract. The loop's invariant: the sums of the first q rows are stored.
--- Assumes nothing.
-use mathlib.Core.Path.{_≡_, refl, _∙_}
-use Prim.Native.Nat.{_-_, _<_, _≤_}
+-- `unflipped::row_sums` meets its contract. The loop's invariant: the sums, and what the bits that are left add to them, are the
+-- rows' sums. Assumes nothing.
+use mathlib.Core.Path.{refl}
+use mathlib.Core.Logic.{⊎-elim}
+use Prim.Native.Nat.{_<_}
+use native.Mathlib.Nat.{eq-zero-or-pos}
 use native.Mathlib.Omega.{arith}
-use lib.ListN.{length, length-set}
-use Rattle.prepare.specs.Inner.Table.{rowSum, RowSums}
-use Rattle.prepare.proofs.StoreLaws.{stored}
+use lib.Count.{trailingZeros}
+use lib.Pow.{pow-pos}
+use Rattle.frame.proofs.ShapeLaws.{one-shifted}
+use Rattle.search.proofs.LowestBit.{turn-low, turn-less}
+use Rattle.prepare.proofs.RowSumLaws.{Summed, summed-none, summed-more, summed-all}
 use Rattle.prepare.proofs.unflipped.row_sums.Statement.{statement}
 use Rattle.prepare.proofs.unflipped.row_sums.Tie as tie
 
 abbrev Inv-loop : tie.InvT-loop
-Inv-loop symbols bits size rows list₀ q₀ list q = (q ≤ rows) × (length list ≡ 6) × RowSums symbols bits size q list
+Inv-loop symbols bits size sums₀ rest₀ sums rest = Summed symbols bits size sums rest
 
 abbrev μ-loop : tie.MeasureT-loop
-μ-loop symbols bits size rows list₀ q₀ list q = rows - q
+μ-loop symbols bits size sums₀ rest₀ sums rest = rest
+
+-- in a turn: there is a lowest bit, below `size`
+some : (c : tie.In-loop Inv-loop μ-loop) → 0 < c .before .loop .rest
+some c = ⊎-elim (λ e. absurd (c .loop-test .taken e)) (λ l. l) (eq-zero-or-pos (c .before .loop .rest))
+
+near : (c : tie.In-loop Inv-loop μ-loop) → trailingZeros 64 (c .before .loop .rest) < 63
+near c = omega (arith, turn-low 64 (c .before .before .args .size) (c .before .loop .rest) (some c) (c .before .loop .inv .low) (omega arith))
+
+shl-rest : tie.Need-shl-rest Inv-loop μ-loop
+shl-rest c = omega arith
+
+rem-rest : tie.Need-rem-rest Inv-loop μ-loop
+rem-rest c = rw (one-shifted {k = c .args .size} (omega arith)) (pow-pos (c .args .size))
 
 loop-holds : tie.Need-loop-holds Inv-loop μ-loop
-loop-holds c = (omega arith, refl, λ q l. absurd (omega arith))
+loop-holds c = summed-none (c .args .symbols .now) (c .args .bits) (c .args .size) _ refl tt _ (one-shifted (omega arith))
 
-row-sum-requires : tie.Need-row-sum-requires Inv-loop μ-loop
-row-sum-requires c κs = omega arith
+cast-j : tie.Need-cast-j Inv-loop μ-loop
+cast-j c = record { fits = omega (arith, near c) }
 
-array-write-list : tie.Need-array-write-list Inv-loop μ-loop
-array-write-list c = omega arith
+plus-column-requires : tie.Need-plus-column-requires Inv-loop μ-loop
+plus-column-requires c κs = (near c, c .before .loop .inv .full)
 
-add-q : tie.Need-add-q Inv-loop μ-loop
-add-q c = omega arith
+sub-rest : tie.Need-sub-rest Inv-loop μ-loop
+sub-rest c = some (c .before)
 
 loop-less : tie.Need-loop-less Inv-loop μ-loop
-loop-less c = omega arith
+loop-less c = turn-less (c .before .before .loop .rest) (some (c .before))
 
 loop-again : tie.Need-loop-again Inv-loop μ-loop
 loop-again c =
-    let a = c .before .before .before .args in
+    let s = c .before .before .before in
     let l = c .before .before .loop in
-    let fit : l .q < length (l .list) = omega arith in (
-      omega arith,
-      length-set (l .list) (l .q) (c .row-sum .result) ∙ l .inv .1,
-      stored (l .list) (λ k. k) (rowSum (a .symbols) (a .bits) (a .size)) (l .q) (c .row-sum .result) (λ k lk e. omega arith) fit (l .inv .2) (c .row-sum .ensures),
-    )
+    summed-more (s .args .symbols .now) (s .args .bits) (s .args .size) (l .sums) (c .plus-column .result) (l .rest) (some (c .before)) (s .pre) (l .inv) (c .plus-column .ensures)
 
 returns : tie.Need-returns Inv-loop μ-loop
-returns c = λ q l. c .before .loop .inv .2 q (omega arith)
+returns c =
+    let s = c .before .before in
+    let l = c .before .loop in
+    summed-all (s .args .symbols .now) (s .args .bits) (s .args .size) (l .sums) (l .rest) (c .loop-test .left) (l .inv)
 
 pub row-sums-spec : {M : Type 1} → statement M
 row-sums-spec =
@@ -49,10 +65,12 @@ row-sums-spec =
     (tie.spec
     Inv-loop
     μ-loop
+    shl-rest
+    rem-rest
     loop-holds
-    row-sum-requires
-    array-write-list
-    add-q
+    cast-j
+    plus-column-requires
+    sub-rest
     loop-less
     loop-again
     returns)
