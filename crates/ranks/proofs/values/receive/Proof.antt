@@ -1,6 +1,6 @@
 -- `ranks::values::receive` meets its contract. Assumes nothing.
-use Rattle.ranks.proofs.ReceiveSteps.{received}
 use borrow.Author.Needs.{needs}
+use Rattle.ranks.proofs.ReceiveSteps.{received}
 use Rattle.ranks.proofs.values.receive.Statement.{statement}
 use Rattle.ranks.proofs.values.receive.Tie as tie
 
