@@ -5,17 +5,8 @@ ghost use Rattle.field.specs.Field.{lengthOf};
 ghost use Rattle.codes.specs.Code.{Known, dimensionOf};
 ghost use Rattle.frame.specs.Shape.{bytesOf};
 
-// k of each code, six bits for each from the lowest: a row for each m, from 4, and in it an entry for each t, from 1. A number and no
-// array, since an array would be laid out anew at each use.
-const DIMENSIONS: u64 = 11
-    + (7 << 6)
-    + (5 << 12)
-    + (26 << 18)
-    + (21 << 24)
-    + (16 << 30)
-    + (57 << 36)
-    + (51 << 42)
-    + (45 << 48);
+// k of each code: a row for each m, from 4, and in it an entry for each t, from 1.
+const DIMENSIONS: [usize; 9] = [11, 7, 5, 26, 21, 16, 57, 51, 45];
 
 // n, the number of positions of a word.
 pub fn length_of(m: u16) -> usize
@@ -32,7 +23,7 @@ pub fn dimension_of(m: u16, t: u16) -> usize
 {
     let row = (m - 4) as usize;
     let column = (t - 1) as usize;
-    ((DIMENSIONS >> (6 * (row * 3 + column))) % 64) as usize
+    DIMENSIONS[row * 3 + column]
 }
 
 // W, the number of bytes of a word.
