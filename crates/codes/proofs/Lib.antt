@@ -1,5 +1,6 @@
 pub mod ShapeLaws
 pub mod WordLaws
+pub mod WordSteps
 pub mod Pigeon
 pub mod RootLaws
 pub mod LagrangeLaws

@@ -16,6 +16,7 @@ use Rattle.codes.specs.Code.{Known}
 use Rattle.codes.specs.Lagrange.{Places, unless, others, productOver, cell, spread, shortCell}
 use Rattle.codes.proofs.WordLaws.{bit-lt, bit-word, word-lt}
 use Rattle.codes.proofs.ShortForm.{cell-is-short}
+use Rattle.codes.proofs.WordSteps.{word-cong}
 use Rattle.soft.specs.Value.{hard}
 use Rattle.soft.specs.Order.{Sorted}
 use Rattle.search.specs.Plan.{Fits, Prepares}
@@ -33,7 +34,7 @@ use Rattle.prepare.specs.declared.by_rank.ByRank.{ByRank}
 use Rattle.prepare.specs.Inner.ByRank.{Gathers, ranked}
 use Rattle.prepare.specs.Inner.Exponents.{outsideOf}
 use Rattle.prepare.specs.Inner.Table.{Cells, RowSums, rowSum}
-use Rattle.prepare.proofs.RankLaws.{word-above, word-cong}
+use Rattle.prepare.proofs.RankLaws.{word-above}
 use Rattle.prepare.proofs.RowSumLaws.{symbol-is}
 
 -- a cell depends on the places outside alone, and on its own

@@ -1,5 +1,4 @@
 pub mod SignLaws
-pub mod WordSteps
 pub mod ReceiveSteps
 pub mod CountLaws
 pub mod CountSteps

@@ -20,7 +20,7 @@ use Rattle.codes.specs.Word.{wordOf}
 use Rattle.soft.specs.Value.{softAt, hardOf, hard, reliability}
 use Rattle.ranks.specs.Receives.{Receives}
 use Rattle.ranks.specs.Inner.Reliabilities.{Reliabilities}
-use Rattle.ranks.proofs.WordSteps.{wordFrom, word-from-more, word-from-lt, word-longer}
+use Rattle.codes.proofs.WordSteps.{wordFrom, word-from-more, word-from-lt, word-longer}
 
 hard-of-bit : (v : ℤ) → hardOf v < 2
 hard-of-bit (pos n) = omega arith

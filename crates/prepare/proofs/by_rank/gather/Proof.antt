@@ -9,10 +9,10 @@ use lib.ListN.{length, getD, set, length-set}
 use lib.Seq.{getD-set-same, getD-set-other}
 use Rattle.codes.specs.Word.{bitOf}
 use Rattle.codes.proofs.WordLaws.{bit-shift, bit-lt}
+use Rattle.codes.proofs.WordSteps.{wordFrom, word-from-none, word-from-all, word-from-more, word-from-lt}
 use Rattle.ranks.specs.Places.{placeIn}
 use Rattle.ranks.specs.declared.Position.{Position}
 use Rattle.prepare.specs.Inner.ByRank.{ranked}
-use Rattle.prepare.proofs.RankLaws.{wordFrom, word-from-none, word-from-all, word-from-more, word-from-lt}
 use Rattle.prepare.proofs.by_rank.gather.Statement.{statement}
 use Rattle.prepare.proofs.by_rank.gather.Tie as tie
 

@@ -9,7 +9,7 @@ use mir.Syntax.{w8}
 use mir.ValLaws.{toZ-ofZ}
 use borrow.Author.Needs.{needs}
 use Rattle.soft.specs.Value.{hard}
-use Rattle.ranks.proofs.WordSteps.{wordFrom, word-from-none, word-from-all}
+use Rattle.codes.proofs.WordSteps.{wordFrom, word-from-none, word-from-all}
 use Rattle.ranks.proofs.ReceiveSteps.{HardsFrom, hards-lt, next-fits, hards-more}
 use Rattle.ranks.proofs.values.hards_of.Statement.{statement}
 use Rattle.ranks.proofs.values.hards_of.Tie as tie

@@ -1,12 +1,12 @@
--- A word bit by bit from the highest, and with zeros past its end. Assumes nothing.
+-- A word bit by bit from the highest, as a loop takes it, and with zeros past its end. Assumes nothing.
 use mathlib.Core.Path.{_≡_, refl, ap, ap₂, _∙_}
 use Prim.Native.Nat.{ℕ, zero, suc, _+_, _-_, _*_, _^_, _<_, _≤_}
 use native.Mathlib.Nat.{lt-of-lt-of-le, pow-le-pow-right}
 use native.Mathlib.Omega.{arith}
 use Rattle.codes.specs.Word.{wordOf}
 use Rattle.codes.proofs.WordLaws.{word-lt}
 
-word-cong : (k : ℕ) (c d : ℕ → ℕ) → ((p : ℕ) → p < k → c p ≡ d p) → wordOf k c ≡ wordOf k d
+pub word-cong : (k : ℕ) (c d : ℕ → ℕ) → ((p : ℕ) → p < k → c p ≡ d p) → wordOf k c ≡ wordOf k d
 unfolding wordOf
 word-cong zero c d h = refl
 word-cong (suc k) c d h = ap₂ (λ (x y : ℕ). x * 2 + y) (word-cong k (λ p. c (suc p)) (λ p. d (suc p)) (λ p l. h (suc p) (omega arith))) (h 0 (omega arith))
