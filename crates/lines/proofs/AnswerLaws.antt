@@ -1,0 +1,86 @@
+-- What a line prints, case by case.
+--   says-header, says-nothing, says-refused   the first line: wrong, words follow, refused
+--   answer-says                               the first line's answer by the header that was read
+--   answers-line                              a word line of a wrong form
+--   answers-refused, answers-ok               what decode gave for its values
+--   long-header, long-word-line               a line of more than 512 bytes
+-- Assumes nothing.
+use mathlib.Core.Path.{_≡_, sym, ap, _∙_}
+use mathlib.Core.Bool.{Bool, true, false, cond}
+use mathlib.Core.List.{List, []}
+use Prim.Native.Nat.{ℕ, _<_}
+use native.Mathlib.Omega.{arith}
+use borrow.Author.Tests.{eq-eqb, ne-eqb, lt-leb}
+use lib.Dec.{eqb}
+use lib.IntN.{ℤ}
+use lib.ListN.{length, take, replicate}
+use Rattle.codes.specs.Code.{Known}
+use Rattle.frame.specs.Shape.{bytesOf}
+use Rattle.frame.proofs.RefusalLaws.{decode-passed}
+use Rattle.decode.specs.Decode.{DecodeAnswers, refused, nothing, decoded}
+use Rattle.decode.specs.declared.Decoding.{Decoding}
+use Rattle.decode.proofs.CalledLaws.{answers-as-result}
+use Rattle.lines.specs.Header.{headerOf}
+use Rattle.lines.specs.WordLine.{valuesOf}
+use Rattle.lines.specs.Output.{headerLine, lineLine, refusedLine, okLine}
+use Rattle.lines.specs.Answer.{headerRefusal, headerSays, headerAnswer, callOf, resultLine, wordAnswer}
+use Rattle.lines.specs.declared.header.Header.{Header}
+use Rattle.lines.proofs.HeaderSteps.{header-long}
+
+module _ (h : Header) where
+  pub says-header : h .good ≡ false → headerSays h ≡ headerLine
+  unfolding headerSays
+  says-header e = rw e
+
+  pub says-nothing : h .good ≡ true → headerRefusal h ≡ 0 → headerSays h ≡ []
+  unfolding headerSays
+  says-nothing e z =
+      ap (λ (b : Bool). cond b (cond (eqb (headerRefusal h) 0) [] (refusedLine (headerRefusal h))) headerLine) e
+      ∙ ap (λ (b : Bool). cond b [] (refusedLine (headerRefusal h))) (eq-eqb (headerRefusal h) 0 z)
+
+  pub says-refused : h .good ≡ true → (headerRefusal h ≡ 0 → ⊥) → headerSays h ≡ refusedLine (headerRefusal h)
+  unfolding headerSays
+  says-refused e n =
+      ap (λ (b : Bool). cond b (cond (eqb (headerRefusal h) 0) [] (refusedLine (headerRefusal h))) headerLine) e
+      ∙ ap (λ (b : Bool). cond b [] (refusedLine (headerRefusal h))) (ne-eqb (headerRefusal h) 0 n)
+
+pub answer-says : (text : List ℕ) (h : Header) → h ≡ headerOf text → headerAnswer text ≡ headerSays h
+unfolding headerAnswer
+answer-says text h e = ap headerSays (sym e)
+
+-- where nothing is refused, the code is known
+pub decoded-known : {m t s order : ℕ} {soft : List ℤ} {before after : List ℕ} {d : Decoding}
+    → DecodeAnswers m t s order soft before d after → d .refusal ≡ 0 → Known m t
+decoded-known {d = d} (refused n r) z = absurd (n (sym (ap (λ (x : Decoding). x .refusal) (r .says)) ∙ z))
+decoded-known {d = d} (nothing e n r) z = let q : _≡_ {A = ℕ} 6 0 = sym (ap (λ (x : Decoding). x .refusal) (r .says)) ∙ z in absurd (omega arith)
+decoded-known {m} {t} {s} {order} {soft} {before} (decoded e r) z = decode-passed m t s order (length soft) (length before) e .known
+
+module _ (h : Header) (text : List ℕ) where
+  pub answers-line : valuesOf text .good ≡ false → wordAnswer h text ≡ lineLine
+  unfolding wordAnswer
+  answers-line e = rw e
+
+  module _ (good : valuesOf text .good ≡ true) (soft : List ℤ) (q : soft ≡ valuesOf text .values) (d : Decoding) (after : List ℕ)
+      (answers : DecodeAnswers (h .m) (h .t) (h .s) (h .order) soft (replicate 8 0) d after) where
+    answers-result : wordAnswer h text ≡ resultLine (h .m) (record { answer = d; after = after })
+    unfolding wordAnswer
+    answers-result =
+        rw (good, ← q) (ap (resultLine (h .m)) (sym (answers-as-result (callOf h soft) (record { answer = d; after = after }) answers)))
+
+    pub answers-refused : (d .refusal ≡ 0 → ⊥) → wordAnswer h text ≡ refusedLine (d .refusal)
+    unfolding resultLine
+    answers-refused n = answers-result ∙ rw (ne-eqb (d .refusal) 0 n)
+
+    pub answers-ok : d .refusal ≡ 0 → wordAnswer h text ≡ okLine (take (bytesOf (h .m)) after) (d .distance) (d .flips) (d .candidates)
+    unfolding resultLine
+    answers-ok z = answers-result ∙ rw (eq-eqb (d .refusal) 0 z)
+
+-- a line too long is as any other line too long
+module _ (text : List ℕ) (l : 512 < length text) where
+  pub long-header : headerAnswer text ≡ headerLine
+  unfolding headerAnswer
+  long-header = says-header (headerOf text) (ap (λ (x : Header). x .good) (header-long text l))
+
+  pub long-word-line : (h : Header) → wordAnswer h text ≡ lineLine
+  unfolding valuesOf
+  long-word-line h = answers-line h text (rw (lt-leb (length text) 512 l))

@@ -1,0 +1,11 @@
+pub mod PartsLaws
+pub mod ScanLaws
+pub mod ScanSteps
+pub mod SignedLaws
+pub mod ReadSteps
+pub mod HeaderSteps
+pub mod ValuesSteps
+pub mod DecimalLaws
+pub mod PutLaws
+pub mod PutSteps
+pub mod AnswerLaws

@@ -1,0 +1,45 @@
+-- A part of a line as the code takes it, byte by byte up to the next space. Only contracts of inner functions cite it.
+--   fresh, spoiled   a part before its first byte, and one that can be no number
+--   pushed p b       p with a byte more, which is no space
+--   scanned p bytes  p with more bytes
+--   firstPart text   the bytes up to the first space
+--   foundAt text i   the part that starts at place i of a text, and where it ends
+-- Assumes nothing.
+use mathlib.Core.Bool.{Bool, true, false, cond, _&&_}
+use mathlib.Core.List.{List, [], _∷_}
+use Prim.Native.Nat.{ℕ, _+_, _-_, _*_}
+use lib.Dec.{ltb, eqb}
+use lib.ListN.{length, drop}
+use Rattle.lines.specs.Line.{isDigit}
+use Rattle.lines.specs.declared.part.Part.{Part}
+use Rattle.lines.specs.declared.part.Found.{Found}
+
+abbrev pub fresh : Part
+fresh = record { minus = false; digits = 0; number = 0 }
+
+abbrev pub spoiled : Part
+spoiled = record { minus = false; digits = 4; number = 0 }
+
+abbrev pub withDigit : Part → ℕ → Part
+withDigit p d = cond (ltb (p .digits) 3) (record { minus = p .minus; digits = p .digits + 1; number = p .number * 10 + d }) spoiled
+
+abbrev pub withMinus : Part → Part
+withMinus p = cond (p .minus) spoiled (cond (ltb 0 (p .digits)) spoiled (record { minus = true; digits = 0; number = 0 }))
+
+unfoldable pub pushed : Part → ℕ → Part
+pushed p b = cond (isDigit b) (withDigit p (b - 48)) (cond (eqb b 45) (withMinus p) spoiled)
+
+unfoldable pub scanned : Part → List ℕ → Part
+scanned p [] = p
+scanned p (b ∷ bytes) = scanned (pushed p b) bytes
+
+unfoldable pub firstPart : List ℕ → List ℕ
+firstPart [] = []
+firstPart (b ∷ text) = cond (eqb b 32) [] (b ∷ firstPart text)
+
+unfoldable pub foundAt : List ℕ → ℕ → Found
+foundAt text i = record { part = scanned fresh (firstPart (drop i text)); end = i + length (firstPart (drop i text)) }
+
+-- one to three digits were seen
+abbrev pub holdsNumber : Part → Bool
+holdsNumber p = ltb 0 (p .digits) && ltb (p .digits) 4
