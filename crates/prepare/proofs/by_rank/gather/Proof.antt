@@ -90,7 +90,7 @@ array-write-places : tie.Need-array-write-places Inv-loop μ-loop
 array-write-places c = omega arith
 
 element-copy-out-weight : tie.Need-element-copy-out-weight Inv-loop μ-loop
-element-copy-out-weight c = placed c
+element-copy-out-weight c = omega (arith, placed c)
 
 array-write-weight : tie.Need-array-write-weight Inv-loop μ-loop
 array-write-weight c = omega arith
