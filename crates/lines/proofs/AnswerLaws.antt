@@ -3,29 +3,37 @@
 --   answer-says                               the first line's answer by the header that was read
 --   answers-line                              a word line of a wrong form
 --   answers-refused, answers-ok               what decode gave for its values
---   long-header, long-word-line               a line of more than 512 bytes
+--   header-long, header-answer-long, word-answer-long   a line of more than 512 bytes
+--   missing-header                            the first line of an empty input
+--   header-answer-short, word-answer-short    how long the answers are
 -- Assumes nothing.
-use mathlib.Core.Path.{_≡_, sym, ap, _∙_}
-use mathlib.Core.Bool.{Bool, true, false, cond}
-use mathlib.Core.List.{List, []}
-use Prim.Native.Nat.{ℕ, _<_}
+use mathlib.Core.Path.{_≡_, refl, sym, ap, subst, _∙_}
+use mathlib.Core.Bool.{Bool, true, false, cond, _&&_}
+use mathlib.Core.List.{List, [], _∷_, map}
+use Prim.Native.Nat.{ℕ, _≤_, _<_}
+use native.Mathlib.Nat.{le-trans}
 use native.Mathlib.Omega.{arith}
 use borrow.Author.Tests.{eq-eqb, ne-eqb, lt-leb}
-use lib.Dec.{eqb}
+use lib.Dec.{T, eqb}
 use lib.IntN.{ℤ}
 use lib.ListN.{length, take, replicate}
+use Rattle.field.proofs.TestLaws.{and-right}
 use Rattle.codes.specs.Code.{Known}
 use Rattle.frame.specs.Shape.{bytesOf}
+use Rattle.frame.specs.Refusal.{unknownCode, tooShort, highOrder}
 use Rattle.frame.proofs.RefusalLaws.{decode-passed}
 use Rattle.decode.specs.Decode.{DecodeAnswers, refused, nothing, decoded}
+use Rattle.decode.specs.Called.{resultOf}
 use Rattle.decode.specs.declared.Decoding.{Decoding}
 use Rattle.decode.proofs.CalledLaws.{answers-as-result}
+use Rattle.lines.specs.Line.{lineFits, parts, isNumber, every}
 use Rattle.lines.specs.Header.{headerOf}
-use Rattle.lines.specs.WordLine.{valuesOf}
+use Rattle.lines.specs.WordLine.{isValue, valueOf, valuesOf}
 use Rattle.lines.specs.Output.{headerLine, lineLine, refusedLine, okLine}
 use Rattle.lines.specs.Answer.{headerRefusal, headerSays, headerAnswer, callOf, resultLine, wordAnswer}
 use Rattle.lines.specs.declared.header.Header.{Header}
-use Rattle.lines.proofs.HeaderSteps.{header-long}
+use Rattle.lines.proofs.HeaderSteps.{too-long}
+use Rattle.lines.proofs.BoundLaws.{first-most, sizes-most, result-small, refused-length, result-length}
 
 module _ (h : Header) where
   pub says-header : h .good ≡ false → headerSays h ≡ headerLine
@@ -76,11 +84,46 @@ module _ (h : Header) (text : List ℕ) where
     answers-ok z = answers-result ∙ rw (eq-eqb (d .refusal) 0 z)
 
 -- a line too long is as any other line too long
-module _ (text : List ℕ) (l : 512 < length text) where
-  pub long-header : headerAnswer text ≡ headerLine
-  unfolding headerAnswer
-  long-header = says-header (headerOf text) (ap (λ (x : Header). x .good) (header-long text l))
+module _ (a b : List ℕ) (p : 512 < length a) (q : 512 < length b) where
+  pub header-long : headerOf a ≡ headerOf b
+  header-long = too-long a p ∙ sym (too-long b q)
 
-  pub long-word-line : (h : Header) → wordAnswer h text ≡ lineLine
-  unfolding valuesOf
-  long-word-line h = answers-line h text (rw (lt-leb (length text) 512 l))
+  pub header-answer-long : headerAnswer a ≡ headerAnswer b
+  unfolding headerAnswer
+  header-answer-long = ap headerSays header-long
+
+pub word-answer-long : (h : Header) (a b : List ℕ) → 512 < length a → 512 < length b → wordAnswer h a ≡ wordAnswer h b
+unfolding valuesOf
+word-answer-long h a b p q = answers-line h a (rw (lt-leb (length a) 512 p)) ∙ sym (answers-line h b (rw (lt-leb (length b) 512 q)))
+
+-- a missing header is a wrong one
+pub missing-header : headerAnswer [] ≡ headerLine
+unfolding headerAnswer headerOf parts isNumber
+missing-header = says-header (headerOf []) refl
+
+-- an answer fits the room that it is given
+refusal-most : (h : Header) → headerRefusal h ≤ 3
+unfolding headerRefusal
+refusal-most h = first-most (unknownCode (h .m) (h .t) ∷ tooShort (h .m) (h .t) (h .s) ∷ highOrder (h .order) ∷ []) 3 tt
+
+pub header-answer-short : (text : List ℕ) → length (headerAnswer text) ≤ 16
+unfolding headerAnswer headerSays headerLine
+header-answer-short text = go (h .good) (eqb (headerRefusal h) 0)
+  where
+    h : Header
+    h = headerOf text
+
+    go : (t u : Bool) → length (cond t (cond u [] (refusedLine (headerRefusal h))) headerLine) ≤ 16
+    go true true = omega arith
+    go true false = le-trans (refused-length (headerRefusal h) (omega (arith, refusal-most h))) (omega arith)
+    go false u = omega arith
+
+pub word-answer-short : (h : Header) (text : List ℕ) → length (wordAnswer h text) ≤ 64
+unfolding wordAnswer valuesOf lineLine
+word-answer-short h text = go (lineFits text && every isValue (parts text)) refl
+  where
+    go : (t : Bool) → (lineFits text && every isValue (parts text)) ≡ t → length (cond t (resultLine (h .m) (resultOf (callOf h (map valueOf (parts text))))) lineLine) ≤ 64
+    go true e =
+        let sizes = sizes-most (parts text) (and-right (lineFits text) (every isValue (parts text)) (subst T (sym e) tt)) in
+        le-trans (result-length (h .m) (resultOf (callOf h (map valueOf (parts text)))) (result-small (callOf h (map valueOf (parts text))) sizes)) (omega arith)
+    go false e = omega arith

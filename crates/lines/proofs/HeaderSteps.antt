@@ -1,7 +1,7 @@
 -- Reading the header, as the loop takes it.
 --   ReadNumbers   the loop's invariant: the first `count` of the four numbers are those of the parts that were read, the others as they were
 --   numbers-begin, numbers-more   before the first part, a part more
---   header-long, numbers-wrong, numbers-many, numbers-few   where the header is wrong
+--   too-long, numbers-wrong, numbers-many, numbers-few   where the header is wrong
 --   numbers-all   three or four numbers are a header
 -- Assumes nothing.
 use mathlib.Core.Path.{_≡_, refl, sym, ap, subst, _∙_}
@@ -73,8 +73,8 @@ not-header text e = go (lineFits text && every isNumber (parts text))
     go true = e
     go false = refl
 
-pub header-long : (text : List ℕ) → 512 < length text → headerOf text ≡ wrongHeader
-header-long text h = not-fit text (rw (lt-leb (length text) 512 h))
+pub too-long : (text : List ℕ) → 512 < length text → headerOf text ≡ wrongHeader
+too-long text h = not-fit text (rw (lt-leb (length text) 512 h))
 
 pub numbers-begin : (text : List ℕ) → ReadNumbers text unread 0 0
 numbers-begin text = record { size = refl; fits = omega arith; rest = refl; reading = reading-begin isNumber numberOf text }

@@ -8,4 +8,5 @@ pub mod ValuesSteps
 pub mod DecimalLaws
 pub mod PutLaws
 pub mod PutSteps
+pub mod BoundLaws
 pub mod AnswerLaws

@@ -6,7 +6,7 @@ use native.Mathlib.Omega.{arith}
 use borrow.Author.Tests.{not-true, not-false}
 use lib.Dec.{T}
 use lib.ListN.{length}
-use Rattle.lines.proofs.HeaderSteps.{ReadNumbers, header-long, numbers-begin, numbers-wrong, numbers-many, numbers-more, end-after, end-within, numbers-few, numbers-all}
+use Rattle.lines.proofs.HeaderSteps.{ReadNumbers, too-long, numbers-begin, numbers-wrong, numbers-many, numbers-more, end-after, end-within, numbers-few, numbers-all}
 use Rattle.lines.proofs.header.read_header.Statement.{statement}
 use Rattle.lines.proofs.header.read_header.Tie as tie
 
@@ -20,7 +20,7 @@ wrong-requires : tie.Need-wrong-requires Inv-loop μ-loop
 wrong-requires c κs = tt
 
 returns : tie.Need-returns Inv-loop μ-loop
-returns c = c .wrong .ensures ∙ sym (header-long (c .before .before .before .args .text .now) (c .before .if1 .taken))
+returns c = c .wrong .ensures ∙ sym (too-long (c .before .before .before .args .text .now) (c .before .if1 .taken))
 
 loop-holds : tie.Need-loop-holds Inv-loop μ-loop
 loop-holds c = (omega arith, numbers-begin (c .before .before .args .text .now))
