@@ -10,3 +10,4 @@ pub mod PutLaws
 pub mod PutSteps
 pub mod BoundLaws
 pub mod AnswerLaws
+pub mod Anchors
