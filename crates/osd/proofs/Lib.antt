@@ -1,3 +1,5 @@
 pub mod WeighTurn
 pub mod PatternTurn
 pub mod PatternCount
+pub mod ChainLaws
+pub mod SkipTurn

@@ -19,7 +19,7 @@ unfolding tried
 tried-count p f x = seen-count (rankBinary p f) x (rankWeighed p (differing p f))
 
 -- more ranks and more flips have more patterns
-patterns-mono : (k l a b : ℕ) → k ≤ l → a ≤ b → patterns k a ≤ patterns l b
+pub patterns-mono : (k l a b : ℕ) → k ≤ l → a ≤ b → patterns k a ≤ patterns l b
 unfolding patterns
 patterns-mono zero l a b h i = patterns-pos l b
 patterns-mono (suc k) zero a b h i = absurd (omega arith)

@@ -1,7 +1,8 @@
 // A candidate, and the best of those seen so far.
 ghost use mathlib.Core.Path.{_≡_};
+ghost use mathlib.Core.Bool.{true};
 ghost use Prim.Native.Nat.{_<_};
-ghost use Rattle.search.specs.Best.{none, stays, better};
+ghost use Rattle.search.specs.Best.{Weighed, none, stays, better};
 ghost use Rattle.osd.specs.As.{asBest, asWeighed};
 
 // A codeword with its soft distance and the number of positions where it differs from the hard decisions.
@@ -68,6 +69,30 @@ impl Best {
             distance: c.distance,
             flips: c.flips,
             count,
+        }
+    }
+
+    // Whether a candidate is found that is nearer than this distance.
+    pub fn nearer(self, distance: u16) -> bool
+        ensures { λ r. ⌜ (r ≡ true → (self .found ≡ true) × (self .distance < distance)) ⌝ }
+    {
+        if self.found {
+            return self.distance < distance;
+        }
+        false
+    }
+
+    // The best with one more candidate seen, a farther one: it counts, and that is all.
+    pub fn counting(self) -> Best
+        requires { ⌜ (self .found ≡ true) × (self .count < 100000) ⌝ }
+        ensures { λ r. ⌜ ((c : Weighed) → self .distance < c .distance → asBest r ≡ better (asBest self) c) ⌝ }
+    {
+        Best {
+            found: true,
+            word: self.word,
+            distance: self.distance,
+            flips: self.flips,
+            count: self.count + 1,
         }
     }
 }

@@ -4,27 +4,54 @@ use crate::best::Candidate;
 use prepare::Prepared;
 use ranks::Rank;
 ghost use mathlib.Core.Path.{_≡_};
-ghost use Prim.Native.Nat.{_+_, _^_, _<_};
+ghost use Prim.Native.Nat.{_+_, _^_, _<_, _≤_};
+ghost use Rattle.frame.specs.Packing.{unpacked};
 ghost use Rattle.search.specs.Plan.{Fits};
 ghost use Rattle.search.specs.ByRank.{rankWeighed, tried};
+ghost use Rattle.search.specs.Part.{partOf};
 ghost use Rattle.prepare.specs.PlanOf.{planOf};
 ghost use Rattle.osd.specs.As.{asBest, asWeighed};
+ghost use Rattle.osd.specs.Inner.Tables.{told};
 
-// The word that differs from the hard decisions at these ranks, bit j for rank j.
-fn weigh(p: Prepared, ranks: u64) -> Candidate
+// The soft distance of the word that differs from the hard decisions at these ranks, bit j for rank j.
+fn weigh(p: Prepared, ranks: u64) -> u16
     requires { ⌜ Fits (planOf p) × (ranks < 2 ^ (p .size + p .rows)) ⌝ }
+    ensures { λ r. ⌜ r ≡ rankWeighed (planOf p) ranks .distance ⌝ }
+{
+    let weight = p.weight;
+    let mut distance: u16 = 0;
+    let mut g = ranks;
+    while g != 0 {
+        let rank = u64::trailing_zeros(g) as usize;
+        distance = distance + weight[rank] as u16;
+        g = g & (g - 1);
+    }
+    distance
+}
+
+// The hard decisions as a word.
+fn word_of(hards: [u8; 8]) -> u64
+    ensures { λ r. ⌜ r ≡ unpacked hards 8 ⌝ }
+{
+    frame::word_in(&hards, 8)
+}
+
+// That word, with its distance and the number of these ranks.
+fn placed(p: Prepared, ranks: u64, distance: u16) -> Candidate
+    requires { ⌜ Fits (planOf p) × (ranks < 2 ^ (p .size + p .rows)) × (distance ≡ rankWeighed (planOf p) ranks .distance) ⌝ }
     ensures { λ r. ⌜ asWeighed r ≡ rankWeighed (planOf p) ranks ⌝ }
 {
-    let mut word = frame::word_in(&p.hards, 8);
-    let mut distance: u16 = 0;
+    let order = p.order;
+    let hards = p.hards;
+    let mut word = word_of(hards);
     let mut flips: u8 = 0;
     let mut g = ranks;
     while g != 0 {
-        let rank = Rank(u64::trailing_zeros(g) as u8);
+        let lowest = u64::trailing_zeros(g) as u8;
+        let rank = Rank(lowest);
         let i = rank.0 as usize;
-        let position = p.order[i];
+        let position = order[i];
         word = word ^ (1u64 << position.0);
-        distance = distance + p.weight[i] as u16;
         flips = flips + 1;
         g = g & (g - 1);
     }
@@ -36,26 +63,27 @@ fn weigh(p: Prepared, ranks: u64) -> Candidate
 }
 
 // The best with one more pattern seen, that in which the ranks of `flips` are flipped: it is dropped at its first symbol
-// other than 0 or 1.
-pub fn pattern(p: Prepared, flips: u64, best: Best) -> Best
-    requires { ⌜ Fits (planOf p) × (flips < 2 ^ p .size) × (best .count < 100000) ⌝ }
+// other than 0 or 1. The symbols are those of the prepared word, lent.
+pub fn pattern<'a>(p: Prepared, symbols: &'a [u8; 378], flips: u64, best: Best) -> Best
+    requires { ⌜ Fits (planOf p) × (now symbols ≡ p .symbols) × (flips < 2 ^ p .size) × (best .count < 100000) ⌝ }
     ensures { λ r. ⌜ asBest r ≡ tried (planOf p) flips (asBest best) ⌝ }
 {
     let rows = p.rows as usize;
+    let base = p.base;
     let mut bits: u64 = 0;
     let mut q = 0;
     'outside: while q < rows {
-        let mut symbol = p.base[q] as u64;
+        let mut symbol = base[q];
         let mut g = flips;
         while g != 0 {
             let rank = u64::trailing_zeros(g) as usize;
-            symbol = symbol ^ p.symbols[q * 63 + rank] as u64;
+            symbol = symbol ^ symbols[q * 63 + rank];
             g = g & (g - 1);
         }
         if 1 < symbol {
             break 'outside;
         }
-        bits = bits ^ (symbol << q);
+        bits = bits ^ ((symbol as u64) << q);
         q += 1;
     }
     if q < rows {
@@ -63,5 +91,20 @@ pub fn pattern(p: Prepared, flips: u64, best: Best) -> Best
     }
     let size = p.size;
     let ranks = flips ^ ((bits ^ p.sides as u64) << size);
-    best.with(weigh(p, ranks))
+    let distance = weigh(p, ranks);
+    if best.nearer(distance) {
+        return best.counting();
+    }
+    best.with(placed(p, ranks, distance))
+}
+
+// The same, where the pattern's non-binary part is known: with one other than 0 the pattern is dropped, and is not entered.
+pub fn offered<'a>(p: Prepared, symbols: &'a [u8; 378], flips: u64, part: u16, best: Best) -> Best
+    requires { ⌜ Fits (planOf p) × (now symbols ≡ p .symbols) × (flips < 2 ^ p .size) × (best .count < 100000) × (part ≡ partOf (planOf p) (told p) flips) ⌝ }
+    ensures { λ r. ⌜ asBest r ≡ tried (planOf p) flips (asBest best) ⌝ }
+{
+    if part != 0 {
+        return best;
+    }
+    pattern(p, symbols, flips, best)
 }

@@ -11,4 +11,6 @@ pub mod PatternsCounted
 pub mod OnePatternEach
 pub mod ClaimsShown
 pub mod LowestBit
+pub mod PartLaws
+pub mod SkipLaws
 pub mod Anchors

@@ -5,4 +5,5 @@ pub mod Positions
 pub mod Plan
 pub mod ByRank
 pub mod Pattern
+pub mod Part
 pub mod Claims

@@ -1,5 +1,6 @@
 -- `pattern` meets its contract. In each turn of the inner loop the lowest flip that is left goes from `g` into the symbol; in each
--- turn of the outer one a symbol that is 0 or 1 goes into `bits`. Assumes nothing.
+-- turn of the outer one a symbol that is 0 or 1 goes into `bits`. A candidate that is farther than the best only counts.
+-- Assumes nothing.
 use mathlib.Core.Path.{_≡_, sym, ap, subst, _∙_}
 use mathlib.Core.Logic.{⊎-elim}
 use Prim.Native.Nat.{ℕ, _-_, _<_}
@@ -8,7 +9,7 @@ use lib.Count.{trailingZeros}
 use borrow.Author.Needs.{needs}
 use Rattle.field.specs.Field.{_⊕_}
 use Rattle.search.specs.Best.{better}
-use Rattle.search.specs.ByRank.{rankWeighed}
+use Rattle.search.specs.ByRank.{rankWeighed, differing}
 use Rattle.search.proofs.LowestBit.{turn-less}
 use Rattle.prepare.specs.PlanOf.{planOf}
 use Rattle.osd.specs.As.{asBest}
@@ -18,56 +19,55 @@ use Rattle.osd.proofs.candidates.pattern.Statement.{statement}
 use Rattle.osd.proofs.candidates.pattern.Tie as tie
 
 abbrev Inv-loop : tie.InvT-loop
-Inv-loop flips best p rows bits q symbol₀ g₀ symbol g = Summed (planOf p) flips q symbol g
+Inv-loop p symbols flips best rows base bits q symbol₀ g₀ symbol g = Summed (planOf p) flips q symbol g
 
 abbrev μ-loop : tie.MeasureT-loop
-μ-loop flips best p rows bits q symbol₀ g₀ symbol g = g
+μ-loop p symbols flips best rows base bits q symbol₀ g₀ symbol g = g
 
 abbrev Inv-outside : tie.InvT-outside
-Inv-outside flips best p rows bits₀ q₀ bits q = Binary (planOf p) flips bits q
+Inv-outside p symbols flips best rows base bits₀ q₀ bits q = Binary (planOf p) flips bits q
 
 abbrev μ-outside : tie.MeasureT-outside
-μ-outside flips best p rows bits₀ q₀ bits q = rows - q
+μ-outside p symbols flips best rows base bits₀ q₀ bits q = rows - q
 
 -- in a turn of the inner loop: there is a lowest flip, which is a rank of the reliable set
 some : (c : tie.In-loop Inv-loop μ-loop Inv-outside μ-outside) → 0 < c .before .loop .g
 some c = ne-pos (c .before .loop .g) (c .loop-test .taken)
 
 low : (c : tie.In-loop Inv-loop μ-loop Inv-outside μ-outside) → trailingZeros 64 (c .before .loop .g) < 61
-low c =
-    let a = c .before .before .before .before .before in
-    summed-low (planOf (a .args .t1)) (a .pre .0) _ _ _ _ (c .before .loop .inv) (some c)
+low c = let s = c .before .before .before .before .before .before in summed-low (planOf (s .args .p)) (s .pre .0) _ _ _ _ (c .before .loop .inv) (some c)
+
+-- after both loops: every symbol is a bit
+whole : (c : tie.Else2 Inv-loop μ-loop Inv-outside μ-outside)
+    → Binary (planOf (c .before .before .before .before .before .args .p)) (c .before .before .before .before .before .args .flips) (c .before .before .outside .bits) (c .before .before .before .before .before .args .p .rows)
+whole c =
+    let o = c .before .before .outside in
+    let end : o .q ≡ c .before .before .before .before .before .args .p .rows = omega (arith, c .if2 .left, o .inv .most) in
+    rw end at (o .inv)
 
 cast-rows : tie.Need-cast-rows Inv-loop μ-loop Inv-outside μ-outside
 cast-rows c = search needs
 
 outside-holds : tie.Need-outside-holds Inv-loop μ-loop Inv-outside μ-outside
-outside-holds c = binary-start (planOf (c .args .t1)) (c .args .flips)
+outside-holds c = binary-start (planOf (c .before .before .args .p)) (c .before .before .args .flips)
 
-element-copy-out-symbol : tie.Need-element-copy-out-symbol Inv-loop μ-loop Inv-outside μ-outside
-element-copy-out-symbol c = omega (arith, c .before .before .pre .0 .rows)
-
-cast-symbol : tie.Need-cast-symbol Inv-loop μ-loop Inv-outside μ-outside
-cast-symbol c = search needs
+array-read-symbol : tie.Need-array-read-symbol Inv-loop μ-loop Inv-outside μ-outside
+array-read-symbol c = omega (arith, c .before .before .before .before .pre .0 .rows)
 
 loop-holds : tie.Need-loop-holds Inv-loop μ-loop Inv-outside μ-outside
-loop-holds c = summed-start (planOf (c .before .before .before .args .t1)) _ _ (c .before .before .before .pre .1)
+loop-holds c = let s = c .before .before .before .before in summed-start (planOf (s .args .p)) _ _ (s .pre .2)
 
 cast-rank : tie.Need-cast-rank Inv-loop μ-loop Inv-outside μ-outside
 cast-rank c = record { fits = omega (arith, low c) }
 
 mul-symbol : tie.Need-mul-symbol Inv-loop μ-loop Inv-outside μ-outside
-mul-symbol c = record { fits = omega (arith, c .before .before .before .before .before .pre .0 .rows) }
+mul-symbol c = record { fits = omega (arith, c .before .before .before .before .before .before .pre .0 .rows) }
 
 add-symbol : tie.Need-add-symbol Inv-loop μ-loop Inv-outside μ-outside
-add-symbol c = record { fits = omega (arith, low c, c .before .before .before .before .before .pre .0 .rows) }
+add-symbol c = record { fits = omega (arith, low c, c .before .before .before .before .before .before .pre .0 .rows) }
 
-element-copy-out-symbol-2 :
-    tie.Need-element-copy-out-symbol-2 Inv-loop μ-loop Inv-outside μ-outside
-element-copy-out-symbol-2 c = omega (arith, low c, c .before .before .before .before .before .pre .0 .rows)
-
-cast-symbol-2 : tie.Need-cast-symbol-2 Inv-loop μ-loop Inv-outside μ-outside
-cast-symbol-2 c = search needs
+element-copy-out-symbol : tie.Need-element-copy-out-symbol Inv-loop μ-loop Inv-outside μ-outside
+element-copy-out-symbol c = omega (arith, low c, c .before .before .before .before .before .before .pre .0 .rows)
 
 sub-g : tie.Need-sub-g Inv-loop μ-loop Inv-outside μ-outside
 sub-g c = omega (arith, some (c .before))
@@ -78,14 +78,17 @@ loop-less c = turn-less (c .before .before .loop .g) (some (c .before))
 loop-again : tie.Need-loop-again Inv-loop μ-loop Inv-outside μ-outside
 unfolding _⊕_
 loop-again c =
-    let a = c .before .before .before .before .before .before in
-    summed-turn (planOf (a .args .t1)) (a .pre .0) _ _ _ _ (c .before .before .loop .inv) (some (c .before))
+    let s = c .before .before .before .before .before .before .before in
+    rw (s .pre .1) (summed-turn (planOf (s .args .p)) (s .pre .0) _ _ _ _ (c .before .before .loop .inv) (some (c .before)))
+
+cast-bits : tie.Need-cast-bits Inv-loop μ-loop Inv-outside μ-outside
+cast-bits c = search needs
 
 shl-bits : tie.Need-shl-bits Inv-loop μ-loop Inv-outside μ-outside
-shl-bits c = omega (arith, c .before .before .before .before .before .before .pre .0 .rows)
+shl-bits c = omega (arith, c .before .before .before .before .before .before .before .pre .0 .rows)
 
 add-q : tie.Need-add-q Inv-loop μ-loop Inv-outside μ-outside
-add-q c = record { fits = omega (arith, c .before .before .before .before .before .before .pre .0 .rows) }
+add-q c = record { fits = omega (arith, c .before .before .before .before .before .before .before .pre .0 .rows) }
 
 outside-less : tie.Need-outside-less Inv-loop μ-loop Inv-outside μ-outside
 outside-less c = omega arith
@@ -93,31 +96,23 @@ outside-less c = omega arith
 outside-again : tie.Need-outside-again Inv-loop μ-loop Inv-outside μ-outside
 unfolding _⊕_
 outside-again c =
-    let a = c .before .before .before .before .before .before in
-    let o = c .before .before .before .before .before .outside in
+    let s = c .before .before .before .before .before .before .before in
+    let o = c .before .before .before .before .outside in
     let l = c .before .before .loop in
-    let p = planOf (a .args .t1) in
-    binary-turn p (a .pre .0) (a .args .flips) (o .bits) (o .q) (l .symbol) (o .inv) (c .before .before .before .before .outside-test .taken)
-    (summed-end p (a .pre .0) _ _ _ _ (l .inv) (c .before .loop-test .left)) (c .if1 .left)
+    let p = planOf (s .args .p) in
+    binary-turn p (s .pre .0) (s .args .flips) (o .bits) (o .q) (l .symbol) (o .inv) (c .before .before .before .outside-test .taken)
+    (summed-end p (s .pre .0) _ _ _ _ (l .inv) (c .before .loop-test .left)) (c .if1 .left)
 
 returns : tie.Need-returns Inv-loop μ-loop Inv-outside μ-outside
 returns c =
-    let a = c .before .before .before in
+    let s = c .before .before .before .before .before in
     let o = c .before .before .outside in
-    let p = planOf (a .args .t1) in
+    let p = planOf (s .args .p) in
     ⊎-elim
     (λ w. absurd (omega (arith, c .if2 .taken)))
-    (λ w. sym (tried-not p (a .args .flips) (o .q) (asBest (a .args .best)) (c .if2 .taken)
-    (subst (λ (x : ℕ). 1 < x) (summed-end p (a .pre .0) _ _ _ _ (w .2 .inv) (w .3 .left)) (w .4 .taken))))
+    (λ w. sym (tried-not p (s .args .flips) (o .q) (asBest (s .args .best)) (c .if2 .taken)
+    (subst (λ (x : ℕ). 1 < x) (summed-end p (s .pre .0) _ _ _ _ (w .1 .inv) (w .2 .left)) (w .3 .taken))))
     (c .before .outside-test .came)
-
--- after both loops: every symbol is a bit
-whole : (c : tie.Else2 Inv-loop μ-loop Inv-outside μ-outside)
-    → Binary (planOf (c .before .before .before .args .t1)) (c .before .before .before .args .flips) (c .before .before .outside .bits) (c .before .before .before .args .t1 .rows)
-whole c =
-    let o = c .before .before .outside in
-    let end : o .q ≡ c .before .before .before .args .t1 .rows = omega (arith, c .if2 .left, o .inv .most) in
-    rw end at (o .inv)
 
 cast-ranks : tie.Need-cast-ranks Inv-loop μ-loop Inv-outside μ-outside
 cast-ranks c = search needs
@@ -126,29 +121,51 @@ cast-ranks-2 : tie.Need-cast-ranks-2 Inv-loop μ-loop Inv-outside μ-outside
 cast-ranks-2 c = search needs
 
 shl-ranks : tie.Need-shl-ranks Inv-loop μ-loop Inv-outside μ-outside
-shl-ranks c = omega (arith, c .before .before .before .pre .0 .sizes)
+shl-ranks c = omega (arith, c .before .before .before .before .before .before .pre .0 .sizes)
 
 weigh-requires : tie.Need-weigh-requires Inv-loop μ-loop Inv-outside μ-outside
 unfolding _⊕_
 weigh-requires c κs =
-    let a = c .before .before .before in
-    let p = planOf (a .args .t1) in
-    let b = c .before .before .outside .bits in
-    (a .pre .0, rw (differing-is p (a .pre .0) (a .args .flips) b (whole c)) (differing-lt p (a .pre .0) (a .args .flips) b (whole c) (a .pre .1)))
+    let s = c .before .before .before .before .before .before in
+    let p = planOf (s .args .p) in
+    let b = c .before .before .before .outside .bits in
+    (s .pre .0, rw (differing-is p (s .pre .0) (s .args .flips) b (whole (c .before))) (differing-lt p (s .pre .0) (s .args .flips) b (whole (c .before)) (s .pre .2)))
 
-with-requires : tie.Need-with-requires Inv-loop μ-loop Inv-outside μ-outside
-with-requires c κs = c .before .before .before .before .pre .2
+nearer-requires : tie.Need-nearer-requires Inv-loop μ-loop Inv-outside μ-outside
+nearer-requires c κs = search needs
+
+counting-requires : tie.Need-counting-requires Inv-loop μ-loop Inv-outside μ-outside
+counting-requires c κs = (c .before .nearer .ensures (c .if3 .taken) .0, c .before .before .before .before .before .before .before .before .before .pre .3)
 
 returns-2 : tie.Need-returns-2 Inv-loop μ-loop Inv-outside μ-outside
 unfolding _⊕_
 returns-2 c =
-    let e = c .before .before in
-    let a = e .before .before .before in
-    let p = planOf (a .args .t1) in
+    let s = c .before .before .before .before .before .before .before .before .before .before in
+    let p = planOf (s .args .p) in
+    let e = c .before .before .before .before .before in
+    let b = e .before .before .outside .bits in
+    let far = c .before .before .nearer .ensures (c .before .if3 .taken) .1 in
+    let same = c .before .before .before .weigh .ensures ∙ ap (λ (g : ℕ). rankWeighed p g .distance) (differing-is p (s .pre .0) (s .args .flips) b (whole e)) in
+    c .counting .ensures (rankWeighed p (differing p (s .args .flips))) (omega (arith, far, same)) ∙ sym (tried-is p (s .pre .0) (s .args .flips) b (whole e) (asBest (s .args .best)))
+
+placed-requires : tie.Need-placed-requires Inv-loop μ-loop Inv-outside μ-outside
+placed-requires c κs =
+    let w = weigh-requires (c .before .before .before) tt in
+    (w .0, w .1, c .before .before .weigh .ensures)
+
+with-requires : tie.Need-with-requires Inv-loop μ-loop Inv-outside μ-outside
+with-requires c κs = c .before .before .before .before .before .before .before .before .before .before .pre .3
+
+returns-3 : tie.Need-returns-3 Inv-loop μ-loop Inv-outside μ-outside
+unfolding _⊕_
+returns-3 c =
+    let s = c .before .before .before .before .before .before .before .before .before .before .before in
+    let p = planOf (s .args .p) in
+    let e = c .before .before .before .before .before .before in
     let b = e .before .before .outside .bits in
     c .with .ensures
-    ∙ ap (better (asBest (a .args .best))) (c .before .weigh .ensures ∙ ap (rankWeighed p) (differing-is p (a .pre .0) (a .args .flips) b (whole e)))
-    ∙ sym (tried-is p (a .pre .0) (a .args .flips) b (whole e) (asBest (a .args .best)))
+    ∙ ap (better (asBest (s .args .best))) (c .before .placed .ensures ∙ ap (rankWeighed p) (differing-is p (s .pre .0) (s .args .flips) b (whole e)))
+    ∙ sym (tried-is p (s .pre .0) (s .args .flips) b (whole e) (asBest (s .args .best)))
 
 pub pattern-spec : {M : Type 1} → statement M
 pattern-spec =
@@ -160,17 +177,16 @@ pattern-spec =
     μ-outside
     cast-rows
     outside-holds
-    element-copy-out-symbol
-    cast-symbol
+    array-read-symbol
     loop-holds
     cast-rank
     mul-symbol
     add-symbol
-    element-copy-out-symbol-2
-    cast-symbol-2
+    element-copy-out-symbol
     sub-g
     loop-less
     loop-again
+    cast-bits
     shl-bits
     add-q
     outside-less
@@ -180,5 +196,9 @@ pattern-spec =
     cast-ranks-2
     shl-ranks
     weigh-requires
+    nearer-requires
+    counting-requires
+    returns-2
+    placed-requires
     with-requires
-    returns-2)
+    returns-3)

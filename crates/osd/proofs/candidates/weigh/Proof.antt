@@ -1,95 +1,64 @@
--- `weigh` meets its contract: in each turn the lowest rank that is left goes from `g` into the word, the distance and the flips.
--- Assumes nothing.
-use mathlib.Core.Path.{sym, subst}
-use Prim.Native.Nat.{ℕ, _+_, _<_}
-use native.Mathlib.Nat.{one-mul, mod-eq-of-lt}
+-- `weigh` meets its contract: in each turn the lowest rank that is left goes from `g` into the distance. The prepared word is none of
+-- the loop's variables, so the invariant speaks of every one that has these weights. Assumes nothing.
+use mathlib.Core.Path.{_≡_, refl}
+use Prim.Native.Nat.{ℕ, _+_, _^_, _<_}
 use native.Mathlib.Omega.{arith}
-use lib.Pow.{pow-lt}
 use lib.Count.{trailingZeros}
-use borrow.Author.Needs.{needs}
-use Rattle.field.specs.Field.{_⊕_}
+use Rattle.search.specs.Plan.{Fits}
 use Rattle.search.proofs.LowestBit.{turn-less}
 use Rattle.prepare.specs.PlanOf.{planOf}
-use Rattle.osd.proofs.WeighTurn.{ne-pos, Left, left-start, left-low, left-turn, left-distance, left-flips, left-end}
+use Rattle.prepare.specs.declared.Prepared.{Prepared}
+use Rattle.osd.proofs.WeighTurn.{ne-pos, rank-low, Far, far-start, far-turn, far-fits, far-end}
 use Rattle.osd.proofs.candidates.weigh.Statement.{statement}
 use Rattle.osd.proofs.candidates.weigh.Tie as tie
 
 abbrev Inv-loop : tie.InvT-loop
-Inv-loop ranks p word₀ distance₀ flips₀ g₀ word distance flips g = Left (planOf p) ranks word distance flips g
+Inv-loop ranks weight distance₀ g₀ distance g = (p : Prepared) → Fits (planOf p) → weight ≡ p .weight → ranks < 2 ^ (p .size + p .rows) → Far (planOf p) ranks distance g
 
 abbrev μ-loop : tie.MeasureT-loop
-μ-loop ranks p word₀ distance₀ flips₀ g₀ word distance flips g = g
+μ-loop ranks weight distance₀ g₀ distance g = g
 
--- in a turn: there is a lowest rank, which is one of those prepared, and so is its position
+-- in a turn: there is a lowest rank, which is one of those prepared
 some : (c : tie.In-loop Inv-loop μ-loop) → 0 < c .before .loop .g
 some c = ne-pos (c .before .loop .g) (c .loop-test .taken)
 
-low : (c : tie.In-loop Inv-loop μ-loop) → trailingZeros 64 (c .before .loop .g) < c .before .before .before .before .before .before .args .t1 .size + c .before .before .before .before .before .before .args .t1 .rows
-low c = left-low (planOf (c .before .before .before .before .before .before .args .t1)) (c .before .before .before .before .before .before .pre .0) _ _ _ _ _ (c .before .loop .inv) (some c)
+far : (c : tie.In-loop Inv-loop μ-loop) → Far (planOf (c .before .before .before .args .p)) (c .before .before .before .args .ranks) (c .before .loop .distance) (c .before .loop .g)
+far c = let s = c .before .before .before in c .before .loop .inv (s .args .p) (s .pre .0) refl (s .pre .1)
+
+low : (c : tie.In-loop Inv-loop μ-loop) → trailingZeros 64 (c .before .loop .g) < c .before .before .before .args .p .size + c .before .before .before .args .p .rows
+low c = let s = c .before .before .before in rank-low (planOf (s .args .p)) (s .pre .0) (c .before .loop .g) (far c .low) (some c)
 
 near : (c : tie.In-loop Inv-loop μ-loop) → trailingZeros 64 (c .before .loop .g) < 63
-near c = omega (arith, low c, c .before .before .before .before .before .before .pre .0 .all)
-
-placed : (c : tie.In-loop Inv-loop μ-loop) → planOf (c .before .before .before .before .before .before .args .t1) .place (trailingZeros 64 (c .before .loop .g)) < 63
-placed c = c .before .before .before .before .before .before .pre .0 .places _ (low c)
-
-word-in-requires : tie.Need-word-in-requires Inv-loop μ-loop
-word-in-requires c κs = search needs
+near c = omega (arith, low c, c .before .before .before .pre .0 .all)
 
 loop-holds : tie.Need-loop-holds Inv-loop μ-loop
-loop-holds c =
-    let a = c .before .before .before .before in
-    let p = planOf (a .args .t1) in
-    subst (λ (w : ℕ). Left p (a .args .ranks) w 0 0 (a .args .ranks)) (sym (c .word-in .ensures)) (left-start p (a .args .ranks) (a .pre .1))
+loop-holds c = λ p fits e h. far-start (planOf p) _ h
+
+cast-rank : tie.Need-cast-rank Inv-loop μ-loop
+cast-rank c = record { fits = omega (arith, near c) }
+
+array-read-distance : tie.Need-array-read-distance Inv-loop μ-loop
+array-read-distance c = near c
 
 cast-distance : tie.Need-cast-distance Inv-loop μ-loop
-cast-distance c = record { fits = omega (arith, near c) }
-
-cast-i : tie.Need-cast-i Inv-loop μ-loop
-cast-i c = record { fits = omega (arith, near (c .before)) }
-
-element-copy-out-position : tie.Need-element-copy-out-position Inv-loop μ-loop
-element-copy-out-position c = near (c .before)
-
-cast-word : tie.Need-cast-word Inv-loop μ-loop
-cast-word c = record { fits = omega (arith, near (c .before .before .before), placed (c .before .before .before)) }
-
-shl-word : tie.Need-shl-word Inv-loop μ-loop
-shl-word c = omega (arith, near (c .before .before .before), placed (c .before .before .before))
-
-element-copy-out-distance : tie.Need-element-copy-out-distance Inv-loop μ-loop
-element-copy-out-distance c = near (c .before .before .before)
-
-cast-distance-2 : tie.Need-cast-distance-2 Inv-loop μ-loop
-cast-distance-2 c = record { fits = omega (arith, c .before .before .before .before .before .before .before .before .before .before .pre .0 .weights _ (low (c .before .before .before .before))) }
+cast-distance c = record { fits = omega (arith, c .before .before .before .pre .0 .weights _ (low c)) }
 
 add-distance : tie.Need-add-distance Inv-loop μ-loop
-add-distance c =
-    let l = c .before .before .before .before .before .loop in
-    let a = c .before .before .before .before .before .before .before .before .before .before in
-    record { fits = omega (arith, left-distance (planOf (a .args .t1)) (a .pre .0) _ _ _ _ _ (l .inv) (some (c .before .before .before .before))) }
-
-add-flips : tie.Need-add-flips Inv-loop μ-loop
-add-flips c =
-    let l = c .before .before .before .before .before .loop in
-    let a = c .before .before .before .before .before .before .before .before .before .before in
-    record { fits = omega (arith, left-flips (planOf (a .args .t1)) (a .pre .0) _ _ _ _ _ (l .inv) (some (c .before .before .before .before))) }
+add-distance c = let s = c .before .before .before in record { fits = omega (arith, far-fits (planOf (s .args .p)) (s .pre .0) _ _ _ (far c) (some c)) }
 
 sub-g : tie.Need-sub-g Inv-loop μ-loop
-sub-g c = omega (arith, some (c .before .before .before .before))
+sub-g c = omega (arith, some c)
 
 loop-less : tie.Need-loop-less Inv-loop μ-loop
-loop-less c = turn-less (c .before .before .before .before .before .loop .g) (some (c .before .before .before .before))
+loop-less c = turn-less (c .before .loop .g) (some c)
 
 loop-again : tie.Need-loop-again Inv-loop μ-loop
-unfolding _⊕_
-loop-again c =
-    let l = c .before .before .before .before .before .loop in
-    let a = c .before .before .before .before .before .before .before .before .before .before in
-    rw (one-mul, mod-eq-of-lt (pow-lt (shl-word (c .before)))) (left-turn (planOf (a .args .t1)) (a .pre .0) _ _ _ _ _ (l .inv) (some (c .before .before .before .before)))
+loop-again c = λ p fits e h. rw e (far-turn (planOf p) fits _ _ _ (c .before .loop .inv p fits e h) (some c))
 
 returns : tie.Need-returns Inv-loop μ-loop
-returns c = left-end (planOf (c .before .before .before .before .before .before .args .t1)) (c .before .before .before .before .before .before .pre .0) _ _ _ _ _ (c .before .loop .inv) (c .loop-test .left)
+returns c =
+    let s = c .before .before .before in
+    far-end (planOf (s .args .p)) (s .pre .0) _ _ _ (c .before .loop .inv (s .args .p) (s .pre .0) refl (s .pre .1)) (c .loop-test .left)
 
 pub weigh-spec : {M : Type 1} → statement M
 weigh-spec =
@@ -97,17 +66,11 @@ weigh-spec =
     (tie.spec
     Inv-loop
     μ-loop
-    word-in-requires
     loop-holds
+    cast-rank
+    array-read-distance
     cast-distance
-    cast-i
-    element-copy-out-position
-    cast-word
-    shl-word
-    element-copy-out-distance
-    cast-distance-2
     add-distance
-    add-flips
     sub-g
     loop-less
     loop-again

@@ -1,20 +1,21 @@
--- `keep` and `flip` meet their contracts, as one cycle of calls: at each call the ranks that are left fall. Each `return` is a step
--- of the definition. Assumes nothing.
-use mathlib.Core.Path.{_≡_, sym, ap, _∙_}
-use Prim.Native.Nat.{ℕ, _+_, _-_, _*_, _%_, _^_, _<_}
-use native.Mathlib.Nat.{one-mul, mod-eq-of-lt}
+-- `keep` and `flip` meet their contracts, as one cycle of calls: at each call the ranks that are left fall. The invariant of keep's loop:
+-- the ranks from j on are done. Assumes nothing.
+use mathlib.Core.Path.{_≡_, refl, sym, ap, _∙_, subst}
+use Prim.Native.Nat.{ℕ, zero, suc, _+_, _-_, _*_, _%_, _^_, _≤_, _<_}
 use native.Mathlib.Omega.{arith}
-use lib.Pow.{pow-lt}
 use lib.Bits.{bitXor}
+use lib.ListN.{getD}
+use borrow.Author.Needs.{needs}
 use Rattle.field.specs.Field.{_⊕_}
-use Rattle.field.proofs.XorLaws.{xor-lt}
 use Rattle.search.specs.Best.{Best}
-use Rattle.search.specs.Search.{bestOver}
+use Rattle.search.specs.Search.{patterns}
 use Rattle.search.specs.ByRank.{tried}
-use Rattle.search.proofs.SearchSteps.{search-early, search-end, search-some, search-patterns, patterns-pos, patterns-some}
+use Rattle.search.specs.Part.{partOf}
+use Rattle.search.proofs.SearchSteps.{patterns-pos}
 use Rattle.prepare.specs.PlanOf.{planOf}
 use Rattle.osd.specs.As.{asBest}
-use Rattle.osd.proofs.PatternCount.{tried-count}
+use Rattle.osd.specs.Inner.Tables.{told}
+use Rattle.osd.proofs.SkipTurn.{over, part-after, kept-start, kept-turn, room, flip-made, flip-lt}
 use borrow.Fn.Kinds.{In}
 use borrow.Fn.PlainCycle.{Measures, is, falls, and}
 use Rattle.osd.proofs.patterns.flip.Reads as flip
@@ -23,196 +24,333 @@ use Rattle.osd.proofs.patterns.+flip+keep.Lts-flip as flip-lts
 use Rattle.osd.proofs.patterns.keep.Reads as keep
 use Rattle.osd.proofs.patterns.keep.Kinds as keep-kinds
 use Rattle.osd.proofs.patterns.+flip+keep.Lts-keep as keep-lts
-use Rattle.osd.proofs.candidates.pattern.Reads as pattern-reads
+use Rattle.osd.proofs.candidates.offered.Reads as offered-reads
+use Rattle.osd.proofs.chains.run_on.Reads as run-on-reads
+use Rattle.osd.proofs.patterns.last_flips.Reads as last-flips-reads
 use Rattle.osd.proofs.patterns.+flip+keep.{statement}
 use Rattle.osd.proofs.patterns.+flip+keep.Tie.{close}
 
-abbrev μ-flip : Measures 0 flip-kinds.ps ℕ
+abbrev μ-flip : Measures 1 flip-kinds.ps ℕ
 μ-flip κs a = 2 * (a .0 .size - a .1 .0 .0)
 
-abbrev μ-keep : Measures 0 keep-kinds.ps ℕ
+abbrev μ-keep : Measures 1 keep-kinds.ps ℕ
 μ-keep κs a = 2 * (a .0 .size - a .1 .0 .0) + 1
 
-abbrev flip-at : ℕ → In 0 flip-kinds.ps
-flip-at t = and 0 flip-kinds.ps (is 0 flip-kinds.ps μ-flip t) flip.Pre
+abbrev flip-at : ℕ → In 1 flip-kinds.ps
+flip-at t = and 1 flip-kinds.ps (is 1 flip-kinds.ps μ-flip t) flip.Pre
 
-abbrev flip-below : ℕ → In 0 flip-kinds.ps
-flip-below t = and 0 flip-kinds.ps (falls 0 flip-kinds.ps _<_ μ-flip t) flip.Pre
+abbrev flip-below : ℕ → In 1 flip-kinds.ps
+flip-below t = and 1 flip-kinds.ps (falls 1 flip-kinds.ps _<_ μ-flip t) flip.Pre
 
-abbrev keep-at : ℕ → In 0 keep-kinds.ps
-keep-at t = and 0 keep-kinds.ps (is 0 keep-kinds.ps μ-keep t) keep.Pre
+abbrev keep-at : ℕ → In 1 keep-kinds.ps
+keep-at t = and 1 keep-kinds.ps (is 1 keep-kinds.ps μ-keep t) keep.Pre
 
-abbrev keep-below : ℕ → In 0 keep-kinds.ps
-keep-below t = and 0 keep-kinds.ps (falls 0 keep-kinds.ps _<_ μ-keep t) keep.Pre
+abbrev keep-below : ℕ → In 1 keep-kinds.ps
+keep-below t = and 1 keep-kinds.ps (falls 1 keep-kinds.ps _<_ μ-keep t) keep.Pre
 
--- a flip as the code makes it
-flipped : (flips r : ℕ) → r < 64 → bitXor flips (1 * 2 ^ r % 2 ^ 64) ≡ flips ⊕ 2 ^ r
+flip-cast-i : (t : ℕ) → flip-lts.Need-cast-i (
+  last-flips-reads.Asked,
+  last-flips-reads.Learnt,
+  keep-below t,
+  keep.Post,
+) (flip-at t) flip.Post
+flip-cast-i t c = search needs
+
+flip-mul-after : (t : ℕ) → flip-lts.Need-mul-after (
+  last-flips-reads.Asked,
+  last-flips-reads.Learnt,
+  keep-below t,
+  keep.Post,
+) (flip-at t) flip.Post
+flip-mul-after t c = record { fits = omega (arith, c .pre .1 .0 .0 .sizes) }
+
+flip-element-copy-out-after : (t : ℕ) → flip-lts.Need-element-copy-out-after (
+  last-flips-reads.Asked,
+  last-flips-reads.Learnt,
+  keep-below t,
+  keep.Post,
+) (flip-at t) flip.Post
+flip-element-copy-out-after t c = omega (arith, c .pre .1 .0 .0 .sizes)
+
+flip-cast-flipped : (t : ℕ) → flip-lts.Need-cast-flipped (
+  last-flips-reads.Asked,
+  last-flips-reads.Learnt,
+  keep-below t,
+  keep.Post,
+) (flip-at t) flip.Post
+flip-cast-flipped t c = omega (arith, c .before .pre .1 .0 .0 .sizes)
+
+flip-shl-flipped : (t : ℕ) → flip-lts.Need-shl-flipped (
+  last-flips-reads.Asked,
+  last-flips-reads.Learnt,
+  keep-below t,
+  keep.Post,
+) (flip-at t) flip.Post
+flip-shl-flipped t c = omega (arith, c .before .pre .1 .0 .0 .sizes)
+
+flip-add-keep : (t : ℕ) → flip-lts.Need-add-keep (
+  last-flips-reads.Asked,
+  last-flips-reads.Learnt,
+  keep-below t,
+  keep.Post,
+) (flip-at t) flip.Post
+flip-add-keep t c = omega (arith, c .before .pre .1 .0 .0 .sizes)
+
+-- after the flip: the ranks that are flipped, and their part
+moved : (t : ℕ) (c : flip-lts.After-after (
+  last-flips-reads.Asked,
+  last-flips-reads.Learnt,
+  keep-below t,
+  keep.Post,
+) (flip-at t) flip.Post)
+    → let a = c .before .args in
+    (bitXor (a .flips) (1 * 2 ^ a .rank .0 % 2 ^ 64) < 2 ^ a .p .size)
+    × (bitXor (a .part) (getD (a .parts .now) (a .rank .0) 0) ≡ partOf (planOf (a .p)) (told (a .p)) (bitXor (a .flips) (1 * 2 ^ a .rank .0 % 2 ^ 64)))
 unfolding _⊕_
-flipped flips r h = rw (one-mul, mod-eq-of-lt (pow-lt h))
+moved t c =
+    let a = c .before .args in
+    let pre = c .before .pre .1 in
+    let made = flip-made (a .flips) (a .rank .0) (flip-shl-flipped t c) in (
+      rw made (flip-lt (a .p .size) (a .flips) (a .rank .0) (pre .1 .0 .0) (pre .1 .0 .2)),
+      rw made (ap (λ (x : ℕ). x ⊕ getD (a .parts .now) (a .rank .0) 0) (pre .1 .0 .3) ∙ sym (part-after (a .p) _ _ _ _ (pre .0 .1) (a .flips) (a .rank .0) (pre .1 .0 .0))),
+    )
 
-flip-add-t7 : (t : ℕ) → flip-lts.Need-add-t7 (keep-below t, keep.Post) (flip-at t) flip.Post
-flip-add-t7 t c = omega (arith, c .pre .1 .0 .0 .sizes)
+more : (n : ℕ) → 1 < n → (n ≡ 2 → ⊥) → 1 < n - 1
+more zero h e = absurd (omega arith)
+more (suc zero) h e = absurd (omega arith)
+more (suc (suc zero)) h e = absurd (e refl)
+more (suc (suc (suc n))) h e = omega arith
 
-flip-sub-keep : (t : ℕ) → flip-lts.Need-sub-keep (keep-below t, keep.Post) (flip-at t) flip.Post
+flip-last-flips-requires : (t : ℕ) → flip-lts.Need-last-flips-requires (
+  last-flips-reads.Asked,
+  last-flips-reads.Learnt,
+  keep-below t,
+  keep.Post,
+) (flip-at t) flip.Post
+flip-last-flips-requires t c κs =
+    let s = c .before .before in
+    let a = s .args in
+    let m = moved t (c .before) in
+    (s .pre .1 .0, ((omega arith, m .0, m .1), subst (λ (n : ℕ). a .best .count + patterns (a .p .size - (a .rank .0 + 1)) (n - 1) ≤ 100000) (c .if1 .taken) (s .pre .1 .1 .1)))
+
+flip-returns : (t : ℕ) → flip-lts.Need-returns (
+  last-flips-reads.Asked,
+  last-flips-reads.Learnt,
+  keep-below t,
+  keep.Post,
+) (flip-at t) flip.Post
+flip-returns t c =
+    let s = c .before .before .before in
+    let a = s .args in
+    c .last-flips .ensures
+    ∙ ap (λ (w : ℕ). over (a .p) (a .rank .0 + 1) 1 w (asBest (a .best))) (flip-made (a .flips) (a .rank .0) (flip-shl-flipped t (c .before .before)))
+    ∙ ap (λ (n : ℕ). over (a .p) (a .rank .0 + 1) (n - 1) (a .flips ⊕ 2 ^ a .rank .0) (asBest (a .best))) (sym (c .before .if1 .taken))
+
+flip-sub-keep : (t : ℕ) → flip-lts.Need-sub-keep (
+  last-flips-reads.Asked,
+  last-flips-reads.Learnt,
+  keep-below t,
+  keep.Post,
+) (flip-at t) flip.Post
 flip-sub-keep t c = omega arith
 
-flip-cast-keep : (t : ℕ) → flip-lts.Need-cast-keep (keep-below t, keep.Post) (flip-at t) flip.Post
-flip-cast-keep t c = omega (arith, c .pre .1 .0 .0 .sizes)
-
-flip-shl-keep : (t : ℕ) → flip-lts.Need-shl-keep (keep-below t, keep.Post) (flip-at t) flip.Post
-flip-shl-keep t c = omega (arith, c .pre .1 .0 .0 .sizes)
-
-flip-keep-requires :
-    (t : ℕ) → flip-lts.Need-keep-requires (keep-below t, keep.Post) (flip-at t) flip.Post
+flip-keep-requires : (t : ℕ) → flip-lts.Need-keep-requires (
+  last-flips-reads.Asked,
+  last-flips-reads.Learnt,
+  keep-below t,
+  keep.Post,
+) (flip-at t) flip.Post
 flip-keep-requires t c κs =
-    let a = c .args in
-    let fits = c .pre .1 .0 .0 in
-    let few = xor-lt (a .p .size) (a .flips) (2 ^ a .rank .0) (c .pre .1 .0 .3) (pow-lt (c .pre .1 .0 .1)) in
-    (omega arith, ((fits, omega arith, rw (flipped (a .flips) (a .rank .0) (omega (arith, fits .sizes))) few), c .pre .1 .1))
+    let s = c .before .before in
+    let m = moved t (c .before) in
+    (omega arith, (s .pre .1 .0, ((omega arith, more (s .args .may) (s .pre .1 .1 .0 .1) (c .if1 .left), m .0, m .1), s .pre .1 .1 .1)))
 
-flip-returns : (t : ℕ) → flip-lts.Need-returns (keep-below t, keep.Post) (flip-at t) flip.Post
-flip-returns t c =
-    let a = c .before .args in
+flip-returns-2 : (t : ℕ) → flip-lts.Need-returns-2 (
+  last-flips-reads.Asked,
+  last-flips-reads.Learnt,
+  keep-below t,
+  keep.Post,
+) (flip-at t) flip.Post
+flip-returns-2 t c =
+    let a = c .before .before .before .args in
     c .keep .ensures
-    ∙ ap (λ (w : ℕ). bestOver (λ i. i) (tried (planOf (a .p))) (a .p .size - (a .rank .0 + 1)) (a .rank .0 + 1) (a .may - 1) w (asBest (a .best)))
-    (flipped (a .flips) (a .rank .0) (omega (arith, c .before .pre .1 .0 .0 .sizes)))
+    ∙ ap (λ (w : ℕ). over (a .p) (a .rank .0 + 1) (a .may - 1) w (asBest (a .best))) (flip-made (a .flips) (a .rank .0) (flip-shl-flipped t (c .before .before)))
 
-keep-pattern-requires : (t : ℕ) → keep-lts.Need-pattern-requires (
-  pattern-reads.Asked,
-  pattern-reads.Learnt,
-  keep-below t,
-  keep.Post,
+abbrev keep-Inv-loop : keep-lts.InvT-loop
+keep-Inv-loop p rank may flips part symbols parts latest earlier from size b₀ j₀ b j =
+    (from ≤ j) × (j ≤ size) × ((x : Best) → asBest b₀ ≡ tried (planOf p) flips x → asBest b ≡ over p j may flips x)
+
+abbrev keep-μ-loop : keep-lts.MeasureT-loop
+keep-μ-loop p rank may flips part symbols parts latest earlier from size b₀ j₀ b j = j
+
+keep-offered-requires : (t : ℕ) → keep-lts.Need-offered-requires (
+  offered-reads.Asked,
+  offered-reads.Learnt,
+  run-on-reads.Asked,
+  run-on-reads.Learnt,
   flip-below t,
   flip.Post,
-) (keep-at t) keep.Post
-keep-pattern-requires t c κs =
-    let a = c .before .args in
-    (c .before .pre .1 .0 .0, c .before .pre .1 .0 .2, omega (arith, patterns-pos (a .p .size - a .rank .0) (a .may)))
+) (keep-at t) keep.Post keep-Inv-loop keep-μ-loop
+keep-offered-requires t c κs =
+    let a = c .args in
+    let pre = c .pre .1 in
+    (pre .0 .0, pre .0 .1 .table, pre .1 .0 .2, omega (arith, patterns-pos (a .p .size - a .rank .0) (a .may)), pre .1 .0 .3)
 
-keep-returns : (t : ℕ) → keep-lts.Need-returns (
-  pattern-reads.Asked,
-  pattern-reads.Learnt,
-  keep-below t,
-  keep.Post,
+keep-run-on-requires : (t : ℕ) → keep-lts.Need-run-on-requires (
+  offered-reads.Asked,
+  offered-reads.Learnt,
+  run-on-reads.Asked,
+  run-on-reads.Learnt,
   flip-below t,
   flip.Post,
-) (keep-at t) keep.Post
-keep-returns t c =
-    let a = c .before .before .args in
-    let leaf = tried (planOf (a .p)) in
-    c .pattern .ensures
-    ∙ sym (ap (λ (y : ℕ). bestOver (λ i. i) leaf (a .p .size - a .rank .0) (a .rank .0) y (a .flips) (asBest (a .best))) (c .before .if1 .taken)
-    ∙ search-early (λ i. i) leaf (a .p .size - a .rank .0) (a .rank .0) (a .flips) (asBest (a .best)))
+) (keep-at t) keep.Post keep-Inv-loop keep-μ-loop
+keep-run-on-requires t c κs = (omega arith, omega (arith, c .before .pre .1 .0 .0 .sizes))
 
-keep-pattern-requires-2 : (t : ℕ) → keep-lts.Need-pattern-requires-2 (
-  pattern-reads.Asked,
-  pattern-reads.Learnt,
-  keep-below t,
-  keep.Post,
+keep-loop-holds : (t : ℕ) → keep-lts.Need-loop-holds (
+  offered-reads.Asked,
+  offered-reads.Learnt,
+  run-on-reads.Asked,
+  run-on-reads.Learnt,
   flip-below t,
   flip.Post,
-) (keep-at t) keep.Post
-keep-pattern-requires-2 t c κs =
-    let s = c .before .before .before in
+) (keep-at t) keep.Post keep-Inv-loop keep-μ-loop
+keep-loop-holds t c =
+    let s = c .before .before in
     let a = s .args in
-    (s .pre .1 .0 .0, s .pre .1 .0 .2, omega (arith, patterns-pos (a .p .size - a .rank .0) (a .may)))
+    let pre = s .pre .1 in
+    let run = c .run-on .ensures in
+    (run .0, run .1, kept-start (a .p) _ _ _ _ (pre .0 .1) (a .flips) (a .part) (pre .1 .0 .3) _ (a .may) _ (run .1) (pre .1 .0 .1) (run .2))
 
-keep-returns-2 : (t : ℕ) → keep-lts.Need-returns-2 (
-  pattern-reads.Asked,
-  pattern-reads.Learnt,
-  keep-below t,
-  keep.Post,
+keep-sub-r : (t : ℕ) → keep-lts.Need-sub-r (
+  offered-reads.Asked,
+  offered-reads.Learnt,
+  run-on-reads.Asked,
+  run-on-reads.Learnt,
   flip-below t,
   flip.Post,
-) (keep-at t) keep.Post
-keep-returns-2 t c =
-    let a = c .before .before .before .before .args in
-    c .pattern2 .ensures
-    ∙ sym (search-end (λ i. i) (tried (planOf (a .p))) (a .p .size) (a .rank .0) (a .may) (a .flips) (asBest (a .best)) (c .before .if2 .taken))
-
-keep-add-t9 : (t : ℕ) → keep-lts.Need-add-t9 (
-  pattern-reads.Asked,
-  pattern-reads.Learnt,
-  keep-below t,
-  keep.Post,
-  flip-below t,
-  flip.Post,
-) (keep-at t) keep.Post
-keep-add-t9 t c = omega (arith, c .before .before .before .pre .1 .0 .0 .sizes)
-
-keep-keep-requires : (t : ℕ) → keep-lts.Need-keep-requires (
-  pattern-reads.Asked,
-  pattern-reads.Learnt,
-  keep-below t,
-  keep.Post,
-  flip-below t,
-  flip.Post,
-) (keep-at t) keep.Post
-keep-keep-requires t c κs =
-    let s = c .before .before .before in
-    let a = s .args in
-    let less : a .rank .0 < a .p .size = omega arith in
-    let some = patterns-some (a .p .size) (a .rank .0) (a .may) less (c .before .before .if1 .left) in
-    (omega arith, ((s .pre .1 .0 .0, omega arith, s .pre .1 .0 .2), omega arith))
+) (keep-at t) keep.Post keep-Inv-loop keep-μ-loop
+keep-sub-r t c = omega arith
 
 keep-flip-requires : (t : ℕ) → keep-lts.Need-flip-requires (
-  pattern-reads.Asked,
-  pattern-reads.Learnt,
-  keep-below t,
-  keep.Post,
+  offered-reads.Asked,
+  offered-reads.Learnt,
+  run-on-reads.Asked,
+  run-on-reads.Learnt,
   flip-below t,
   flip.Post,
-) (keep-at t) keep.Post
+) (keep-at t) keep.Post keep-Inv-loop keep-μ-loop
 keep-flip-requires t c κs =
     let s = c .before .before .before .before in
     let a = s .args in
-    let less : a .rank .0 < a .p .size = omega arith in
-    let some = patterns-some (a .p .size) (a .rank .0) (a .may) less (c .before .before .before .if1 .left) in
-    let seen = ap (λ (x : Best). x .count) (c .keep .ensures) in
-    let most =
-    search-patterns (λ i. i) (tried (planOf (a .p))) (tried-count (planOf (a .p))) (a .p .size - (a .rank .0 + 1)) (a .rank .0 + 1) (a .may) (a .flips) (asBest (a .best)) in
-    (omega arith, ((s .pre .1 .0 .0, omega arith, omega arith, s .pre .1 .0 .2), omega arith))
+    let pre = s .pre .1 in
+    let l = c .before .loop in
+    let r = l .j - 1 in
+    let back : l .j ≡ r + 1 = omega arith in
+    let low : r < a .p .size = omega arith in
+    let e = l .inv .2 (asBest (a .best)) (c .before .before .before .offered .ensures) ∙ ap (λ (n : ℕ). over (a .p) n (a .may) (a .flips) (asBest (a .best))) back in (
+      omega arith,
+      (
+        pre .0,
+        (
+          (low, pre .1 .0 .1, pre .1 .0 .2, pre .1 .0 .3),
+          room (a .p) (a .rank .0) r (a .may) (a .flips) (asBest (a .best)) _ (omega arith) low (λ z. omega arith) (pre .1 .1) e,
+        ),
+      ),
+    )
 
-keep-returns-3 : (t : ℕ) → keep-lts.Need-returns-3 (
-  pattern-reads.Asked,
-  pattern-reads.Learnt,
-  keep-below t,
-  keep.Post,
+keep-run-on-requires-2 : (t : ℕ) → keep-lts.Need-run-on-requires-2 (
+  offered-reads.Asked,
+  offered-reads.Learnt,
+  run-on-reads.Asked,
+  run-on-reads.Learnt,
   flip-below t,
   flip.Post,
-) (keep-at t) keep.Post
-keep-returns-3 t c =
-    let a = c .before .before .before .before .before .args in
-    let leaf = tried (planOf (a .p)) in
-    let less : a .rank .0 < a .p .size = omega arith in
-    c .flip .ensures
-    ∙ ap (bestOver (λ i. i) leaf (a .p .size - (a .rank .0 + 1)) (a .rank .0 + 1) (a .may - 1) (a .flips ⊕ 2 ^ a .rank .0)) (c .before .keep .ensures)
-    ∙ sym (search-some (λ i. i) leaf (a .p .size) (a .rank .0) (a .may) (a .flips) (asBest (a .best)) less (c .before .before .before .before .if1 .left))
+) (keep-at t) keep.Post keep-Inv-loop keep-μ-loop
+keep-run-on-requires-2 t c κs = (omega arith, omega (arith, c .before .before .before .before .before .pre .1 .0 .0 .sizes))
+
+keep-loop-less : (t : ℕ) → keep-lts.Need-loop-less (
+  offered-reads.Asked,
+  offered-reads.Learnt,
+  run-on-reads.Asked,
+  run-on-reads.Learnt,
+  flip-below t,
+  flip.Post,
+) (keep-at t) keep.Post keep-Inv-loop keep-μ-loop
+keep-loop-less t c = omega (arith, c .run-on2 .ensures .1)
+
+keep-loop-again : (t : ℕ) → keep-lts.Need-loop-again (
+  offered-reads.Asked,
+  offered-reads.Learnt,
+  run-on-reads.Asked,
+  run-on-reads.Learnt,
+  flip-below t,
+  flip.Post,
+) (keep-at t) keep.Post keep-Inv-loop keep-μ-loop
+keep-loop-again t c =
+    let s = c .before .before .before .before .before .before in
+    let a = s .args in
+    let pre = s .pre .1 in
+    let l = c .before .before .before .loop in
+    let run = c .run-on2 .ensures in
+    let back : l .j ≡ l .j - 1 + 1 = omega arith in (
+      run .0,
+      omega (arith, run .1),
+      λ x e. kept-turn (a .p) _ _ _ _ (pre .0 .1) (a .flips) (a .part) (pre .1 .0 .3) (l .j) (l .j - 1) _ (a .may) _ _ x back (l .inv .1) (run .1) (pre .1 .0 .1) (run .2)
+          (l .inv .2 x e) (c .before .flip .ensures),
+    )
+
+keep-returns : (t : ℕ) → keep-lts.Need-returns (
+  offered-reads.Asked,
+  offered-reads.Learnt,
+  run-on-reads.Asked,
+  run-on-reads.Learnt,
+  flip-below t,
+  flip.Post,
+) (keep-at t) keep.Post keep-Inv-loop keep-μ-loop
+keep-returns t c =
+    let a = c .before .before .before .before .args in
+    let l = c .before .loop in
+    let end : l .j ≡ a .rank .0 = omega arith in
+    l .inv .2 (asBest (a .best)) (c .before .before .before .offered .ensures) ∙ ap (λ (n : ℕ). over (a .p) n (a .may) (a .flips) (asBest (a .best))) end
 
 pub +flip+keep-spec : {M : Type 1} → statement M
-+flip+keep-spec =
-    close
-    μ-flip
-    μ-keep
-    (λ t. flip-lts.spec
-    (keep-below t, keep.Post)
++flip+keep-spec = close μ-flip μ-keep (λ t. flip-lts.spec (
+  last-flips-reads.Asked,
+  last-flips-reads.Learnt,
+  keep-below t,
+  keep.Post,
+)
     (flip-at t)
     flip.Post
-    (flip-add-t7 t)
+    (flip-cast-i t)
+    (flip-mul-after t)
+    (flip-element-copy-out-after t)
+    (flip-cast-flipped t)
+    (flip-shl-flipped t)
+    (flip-add-keep t)
+    (flip-last-flips-requires t)
+    (flip-returns t)
     (flip-sub-keep t)
-    (flip-cast-keep t)
-    (flip-shl-keep t)
     (flip-keep-requires t)
-    (flip-returns t))
-    λ t. keep-lts.spec
-    (pattern-reads.Asked, pattern-reads.Learnt, keep-below t, keep.Post, flip-below t, flip.Post)
+    (flip-returns-2 t))
+    λ t. keep-lts.spec (
+      offered-reads.Asked,
+      offered-reads.Learnt,
+      run-on-reads.Asked,
+      run-on-reads.Learnt,
+      flip-below t,
+      flip.Post,
+    )
     (keep-at t)
     keep.Post
-    (keep-pattern-requires t)
-    (keep-returns t)
-    (keep-pattern-requires-2 t)
-    (keep-returns-2 t)
-    (keep-add-t9 t)
-    (keep-keep-requires t)
+    keep-Inv-loop
+    keep-μ-loop
+    (keep-offered-requires t)
+    (keep-run-on-requires t)
+    (keep-loop-holds t)
+    (keep-sub-r t)
     (keep-flip-requires t)
-    (keep-returns-3 t)
+    (keep-run-on-requires-2 t)
+    (keep-loop-less t)
+    (keep-loop-again t)
+    (keep-returns t)

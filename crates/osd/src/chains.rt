@@ -1,0 +1,62 @@
+// The ranks in chains, each with the ranks whose columns' parts have one slot: the last flip is looked up by its part, and a flip that
+// leads nowhere is told without a walk over the ranks after it.
+ghost use mathlib.Core.Path.{_≡_};
+ghost use Prim.Native.Nat.{ℕ, _+_, _%_, _≤_, _<_};
+ghost use lib.ListN.{length, getD};
+ghost use Rattle.field.specs.Field.{_⊕_};
+ghost use Rattle.osd.specs.Inner.Tables.{slotOf, Chained, Shut};
+use ranks::Rank;
+
+// The slot of a part: its lowest ten bits.
+pub fn slot(part: u16) -> usize
+    ensures { λ r. ⌜ (r ≡ slotOf part) × (r < 1024) ⌝ }
+{
+    (part % 1024) as usize
+}
+
+// The chains of the ranks: for each slot one more than its last rank, and for each rank one more than the rank before it in its
+// slot; 0 where there is none.
+pub fn chain<'a>(parts: &'a [u16; 64], size: usize, earlier: &'a mut [u8; 64]) -> [u8; 1024]
+    requires { ⌜ (size ≤ 64) × (length (now earlier) ≡ 64) ⌝ }
+    ensures { λ r. ⌜ Chained (now (parts .entry)) size r (now (earlier .exit)) ⌝ }
+{
+    let mut latest = [0u8; 1024];
+    let mut j = 0;
+    while j < size {
+        let s = slot(parts[j]);
+        earlier[j] = latest[s];
+        j += 1;
+        latest[s] = j as u8;
+    }
+    latest
+}
+
+// With two flips left: the ranks from `to` down to `from` are passed over as far as their flips lead nowhere. With more left, none is.
+pub fn run_on<'a>(
+    parts: &'a [u16; 64],
+    latest: &'a [u8; 1024],
+    part: u16,
+    from: Rank,
+    to: Rank,
+    may: u8,
+) -> Rank
+    requires { ⌜ (from .0 ≤ to .0) × (to .0 ≤ 64) ⌝ }
+    ensures { λ r. ⌜ (from .0 ≤ r .0) × (r .0 ≤ to .0) × ((i : ℕ) → r .0 ≤ i → i < to .0 → (may ≤ 2) × Shut (now (latest .entry)) (i + 1) (part ⊕ getD (now (parts .entry)) i 0)) ⌝ }
+{
+    if 2 < may {
+        return to;
+    }
+    let first = from.0;
+    let mut j = to.0;
+    while first < j {
+        let after = part ^ parts[(j - 1) as usize];
+        if after == 0 {
+            return Rank(j);
+        }
+        if j < latest[slot(after)] {
+            return Rank(j);
+        }
+        j -= 1;
+    }
+    Rank(j)
+}

@@ -1,0 +1,54 @@
+// The non-binary parts of the columns of the symbol table: what tells a flip that leads to no candidate.
+ghost use mathlib.Core.Path.{_≡_};
+ghost use Prim.Native.Nat.{_*_, _/_, _^_, _≤_, _<_};
+ghost use lib.ListN.{length, getD};
+ghost use Rattle.search.specs.Part.{packed};
+ghost use Rattle.osd.specs.Inner.Tables.{PartsOf, RowAdded};
+
+// All bits of a symbol but the lowest, moved to the place of its row.
+fn moved(symbol: u8, q: usize) -> u16
+    requires { ⌜ q < 3 ⌝ }
+    ensures { λ r. ⌜ r ≡ symbol / 2 * 2 ^ (4 * q) ⌝ }
+{
+    ((symbol / 2) as u16) << (4 * q)
+}
+
+// Adds the parts of row q. It goes over one cell more than there are ranks, so that the loop has 64 turns.
+fn add_row<'a>(parts: &'a mut [u16; 64], symbols: &'a [u8; 378], q: usize)
+    requires { ⌜ (q < 3) × (length (now parts) ≡ 64) ⌝ }
+    ensures { λ _. ⌜ (length (now (parts .exit)) ≡ 64) × RowAdded (now (symbols .entry)) q (now (parts .entry)) (now (parts .exit)) ⌝ }
+{
+    let mut j = 0;
+    while j < 64 {
+        parts[j] = parts[j] ^ moved(symbols[q * 63 + j], q);
+        j += 1;
+    }
+}
+
+// The parts of the columns, in the first `told` rows.
+pub fn parts_of(symbols: &[u8; 378], told: usize) -> [u16; 64]
+    requires { ⌜ told ≤ 3 ⌝ }
+    ensures { λ r. ⌜ PartsOf (now (symbols .entry)) told r ⌝ }
+{
+    let mut parts = [0u16; 64];
+    let mut q = 0;
+    while q < told {
+        add_row(&mut parts, symbols, q);
+        q += 1;
+    }
+    parts
+}
+
+// The part of the unflipped pattern.
+pub fn base_part(base: [u8; 6], told: usize) -> u16
+    requires { ⌜ told ≤ 3 ⌝ }
+    ensures { λ r. ⌜ r ≡ packed (λ q. getD base q 0) told ⌝ }
+{
+    let mut part: u16 = 0;
+    let mut q = 0;
+    while q < told {
+        part = part ^ moved(base[q], q);
+        q += 1;
+    }
+    part
+}
