@@ -1,18 +1,16 @@
 -- The last rank below a bound that has a slot, and the chains as they are built: one rank more is linked. Assumes nothing.
-use mathlib.Core.Path.{_≡_, refl, sym, ap, _∙_, subst}
-use mathlib.Core.Bool.{Bool, true, false, cond}
+use mathlib.Core.Path.{_≡_, sym, ap, _∙_}
 use mathlib.Core.Logic.{by-cases, ⊎-elim}
 use mathlib.Core.List.{List}
 use Prim.Native.Nat.{ℕ, zero, suc, _+_, _<_, _≤_}
 use native.Mathlib.Decide.{ℕ-discrete}
-use native.Mathlib.Nat.{eq-or-lt-of-le, le-of-suc-le-suc}
+use native.Mathlib.Nat.{eq-or-lt-of-le, le-of-suc-le-suc, mod-lt}
 use native.Mathlib.Numerals.{add-one}
 use native.Mathlib.Omega.{arith}
-use lib.Dec.{eqb}
-use lib.ListN.{length, getD, set}
+use lib.ListN.{length, getD, set, length-set}
 use lib.Seq.{getD-set-same, getD-set-other}
 use borrow.Author.Tests.{eq-eqb, ne-eqb}
-use Rattle.osd.specs.Inner.Tables.{slotOf, lastIn, Chained}
+use Rattle.osd.specs.Inner.Chains.{slotOf, lastIn, Chained}
 
 module _ (parts : List ℕ) where
   abbrev slotAt : ℕ → ℕ
@@ -50,20 +48,26 @@ module _ (parts : List ℕ) where
       (eq-or-lt-of-le (le-of-suc-le-suc b)))
 
 -- no rank is linked yet
-pub chained-start : (parts latest earlier : List ℕ) → ((h : ℕ) → h < 1024 → getD latest h 0 ≡ 0) → Chained parts 0 latest earlier
+pub chained-start : (parts chains : List ℕ) → ((i : ℕ) → i < 1088 → getD chains i 0 ≡ 0) → Chained parts 0 chains
 unfolding lastIn
-chained-start parts latest earlier none = record { heads = none; links = λ j l. absurd (omega arith) }
+chained-start parts chains none = record { heads = λ z. none (slotOf z) (omega (arith, mod-lt z {m = 1024} (omega arith))); links = λ j l. absurd (omega arith) }
 
 -- rank j is linked to the last rank of its slot, and is the last one itself
-pub chained-turn : (parts latest earlier : List ℕ) (j s : ℕ) → Chained parts j latest earlier → s ≡ slotOf (getD parts j 0) → s < length latest → j < length earlier
-    → Chained parts (j + 1) (set latest s (j + 1)) (set earlier j (getD latest s 0))
-chained-turn parts latest earlier j s c e fit room = record {
-  heads = λ h l. by-cases (ℕ-discrete h s)
-      (λ q. ap (λ (x : ℕ). getD (set latest s (j + 1)) x 0) q ∙ getD-set-same latest s (j + 1) 0 fit ∙ add-one j
-      ∙ sym (ap (λ (n : ℕ). lastIn parts n h) (add-one j) ∙ last-here parts j h (sym e ∙ sym q)))
-      (λ q. getD-set-other latest s h (j + 1) 0 q ∙ c .heads h l ∙ sym (ap (λ (n : ℕ). lastIn parts n h) (add-one j) ∙ last-other parts j h (λ z. q (sym z ∙ sym e))));
-  links = λ k l. by-cases (ℕ-discrete k j)
-      (λ q. ap (λ (x : ℕ). getD (set earlier j (getD latest s 0)) x 0) q ∙ getD-set-same earlier j (getD latest s 0) 0 room
-      ∙ c .heads s (omega (arith, e)) ∙ subst (λ (x : ℕ). lastIn parts j s ≡ lastIn parts x (slotOf (getD parts x 0))) (sym q) (ap (lastIn parts j) e))
-      (λ q. getD-set-other earlier j k (getD latest s 0) 0 q ∙ c .links k (omega arith));
-}
+pub chained-turn : (parts chains : List ℕ) (j s : ℕ) → Chained parts j chains → s ≡ slotOf (getD parts j 0) → length chains ≡ 1088 → j < 64
+    → Chained parts (j + 1) (set (set chains j (getD chains s 0)) s (j + 1))
+chained-turn parts chains j s c e full low =
+    let v = getD chains s 0 in
+    let linked = set chains j v in
+    let bound = mod-lt (getD parts j 0) {m = 1024} (omega arith) in
+    let fit : s < length linked = omega (arith, length-set chains j v, bound) in record {
+      heads = λ z. by-cases (ℕ-discrete (slotOf z) s)
+          (λ q. ap (λ (x : ℕ). getD (set linked s (j + 1)) x 0) q ∙ getD-set-same linked s (j + 1) 0 fit ∙ add-one j
+          ∙ sym (ap (λ (n : ℕ). lastIn parts n (slotOf z)) (add-one j) ∙ last-here parts j (slotOf z) (sym e ∙ sym q)))
+          (λ q. getD-set-other linked s (slotOf z) (j + 1) 0 q ∙ getD-set-other chains j (slotOf z) v 0 (λ k. omega arith) ∙ c .heads z
+          ∙ sym (ap (λ (n : ℕ). lastIn parts n (slotOf z)) (add-one j) ∙ last-other parts j (slotOf z) (λ k. q (sym k ∙ sym e))));
+      links = λ k l. getD-set-other linked s k (j + 1) 0 (λ q. omega arith)
+          ∙ by-cases (ℕ-discrete k j)
+          (λ q. ap (λ (x : ℕ). getD linked x 0) q ∙ getD-set-same chains j v 0 (omega arith) ∙ ap (λ (x : ℕ). getD chains x 0) e ∙ c .heads (getD parts j 0)
+          ∙ ap (λ (x : ℕ). lastIn parts x (slotOf (getD parts x 0))) (sym q))
+          (λ q. getD-set-other chains j k v 0 q ∙ c .links k (omega arith));
+    }

@@ -1,2 +1,3 @@
 -- What only the contracts of the inner functions cite. Assumes nothing.
-pub mod Tables
+pub mod Parts
+pub mod Chains

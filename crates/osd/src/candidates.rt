@@ -1,17 +1,17 @@
 // What one pattern of flipped ranks makes: its symbols outside the reliable set, and the candidate if all are 0 or 1.
 use crate::best::Best;
 use crate::best::Candidate;
+use crate::flips::Flips;
 use prepare::Prepared;
 use ranks::Rank;
 ghost use mathlib.Core.Path.{_≡_};
-ghost use Prim.Native.Nat.{_+_, _^_, _<_, _≤_};
+ghost use Prim.Native.Nat.{_+_, _^_, _<_};
 ghost use Rattle.frame.specs.Packing.{unpacked};
 ghost use Rattle.search.specs.Plan.{Fits};
 ghost use Rattle.search.specs.ByRank.{rankWeighed, tried};
-ghost use Rattle.search.specs.Part.{partOf};
 ghost use Rattle.prepare.specs.PlanOf.{planOf};
 ghost use Rattle.osd.specs.As.{asBest, asWeighed};
-ghost use Rattle.osd.specs.Inner.Tables.{told};
+ghost use Rattle.osd.specs.Inner.Parts.{Made};
 
 // The soft distance of the word that differs from the hard decisions at these ranks, bit j for rank j.
 fn weigh(p: Prepared, ranks: u64) -> u16
@@ -99,12 +99,12 @@ pub fn pattern<'a>(p: Prepared, symbols: &'a [u8; 378], flips: u64, best: Best) 
 }
 
 // The same, where the pattern's non-binary part is known: with one other than 0 the pattern is dropped, and is not entered.
-pub fn offered<'a>(p: Prepared, symbols: &'a [u8; 378], flips: u64, part: u16, best: Best) -> Best
-    requires { ⌜ Fits (planOf p) × (now symbols ≡ p .symbols) × (flips < 2 ^ p .size) × (best .count < 100000) × (part ≡ partOf (planOf p) (told p) flips) ⌝ }
-    ensures { λ r. ⌜ asBest r ≡ tried (planOf p) flips (asBest best) ⌝ }
+pub fn offered<'a>(p: Prepared, symbols: &'a [u8; 378], flips: Flips, best: Best) -> Best
+    requires { ⌜ Fits (planOf p) × (now symbols ≡ p .symbols) × Made p flips × (best .count < 100000) ⌝ }
+    ensures { λ r. ⌜ asBest r ≡ tried (planOf p) (flips .ranks) (asBest best) ⌝ }
 {
-    if part != 0 {
+    if flips.part != 0 {
         return best;
     }
-    pattern(p, symbols, flips, best)
+    pattern(p, symbols, flips.ranks, best)
 }

@@ -2,5 +2,6 @@
 pub mod best;
 pub mod candidates;
 mod chains; // the ranks by the parts of their columns, and the flips that lead nowhere
+pub mod flips;
 mod parts; // the non-binary parts of the columns
 pub mod patterns;

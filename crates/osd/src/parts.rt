@@ -3,7 +3,7 @@ ghost use mathlib.Core.Path.{_≡_};
 ghost use Prim.Native.Nat.{_*_, _/_, _^_, _≤_, _<_};
 ghost use lib.ListN.{length, getD};
 ghost use Rattle.search.specs.Part.{packed};
-ghost use Rattle.osd.specs.Inner.Tables.{PartsOf, RowAdded};
+ghost use Rattle.osd.specs.Inner.Parts.{PartsOf, RowAdded};
 
 // All bits of a symbol but the lowest, moved to the place of its row.
 fn moved(symbol: u8, q: usize) -> u16

@@ -5,6 +5,7 @@ use crate::candidates::pattern;
 use crate::chains::chain;
 use crate::chains::run_on;
 use crate::chains::slot;
+use crate::flips::Flips;
 use crate::parts::base_part;
 use crate::parts::parts_of;
 use prepare::Prepared;
@@ -15,79 +16,62 @@ ghost use Rattle.field.specs.Field.{_⊕_};
 ghost use Rattle.search.specs.Search.{patterns, bestOver};
 ghost use Rattle.search.specs.Plan.{Fits};
 ghost use Rattle.search.specs.ByRank.{tried, rankSearched};
-ghost use Rattle.search.specs.Part.{partOf};
 ghost use Rattle.prepare.specs.PlanOf.{planOf};
 ghost use Rattle.osd.specs.As.{asBest};
-ghost use Rattle.osd.specs.Inner.Tables.{told, Tabled};
+ghost use Rattle.osd.specs.Inner.Parts.{Made};
+ghost use Rattle.osd.specs.Inner.Chains.{Tabled};
 
-// The best over the patterns of the ranks from `rank` on with at most one flip among them; `flips` has those made before, and `part`
-// is their non-binary part. The flip is looked up by its column's part, from the last rank back.
+// The best over the patterns of the ranks from `rank` on with at most one flip among them, after the flips that are made. The flip is
+// looked up by its column's part, from the last rank back.
 fn last_flips<'a>(
     p: Prepared,
     rank: Rank,
-    flips: u64,
-    part: u16,
+    flips: Flips,
     best: Best,
     symbols: &'a [u8; 378],
     parts: &'a [u16; 64],
-    latest: &'a [u8; 1024],
-    earlier: &'a [u8; 64],
+    chains: &'a [u8; 1088],
 ) -> Best
-    requires { ⌜ Fits (planOf p) × Tabled p (now symbols) (now parts) (now latest) (now earlier) ⌝ }
-    requires { ⌜ (rank .0 ≤ p .size) × (flips < 2 ^ p .size) × (part ≡ partOf (planOf p) (told p) flips) ⌝ }
-    requires { ⌜ best .count + patterns (p .size - rank .0) 1 ≤ 100000 ⌝ }
-    ensures { λ r. ⌜ asBest r ≡ bestOver (λ i. i) (tried (planOf p)) (p .size - rank .0) (rank .0) 1 flips (asBest best) ⌝ }
+    requires { ⌜ Fits (planOf p) × Tabled p (now symbols) (now parts) (now chains) × Made p flips ⌝ }
+    requires { ⌜ (rank .0 ≤ p .size) × (best .count + patterns (p .size - rank .0) 1 ≤ 100000) ⌝ }
+    ensures { λ r. ⌜ asBest r ≡ bestOver (λ i. i) (tried (planOf p)) (p .size - rank .0) (rank .0) 1 (flips .ranks) (asBest best) ⌝ }
 {
     let from = rank.0;
-    let mut b = offered(p, symbols, flips, part, best);
-    let mut j = latest[slot(part)];
+    let mut b = offered(p, symbols, flips, best);
+    let mut j = chains[slot(flips.part)];
     while from < j {
         let r = j - 1;
         let i = r as usize;
-        b = offered(p, symbols, flips ^ (1u64 << r), part ^ parts[i], b);
-        j = earlier[i];
+        b = offered(p, symbols, flips.with(r, parts[i]), b);
+        j = chains[i];
     }
     b
 }
 
-// The best over the patterns of the ranks from `rank` on with at most `may` flips among them, two or more. The pattern with all of
-// them kept comes first; then each rank, from the last one back, whose flip may lead to a candidate is flipped.
+// The same with at most `may` flips, two or more. The pattern with all of the ranks kept comes first; then each rank, from the last one
+// back, whose flip may lead to a candidate is flipped.
 fn keep<'a>(
     p: Prepared,
     rank: Rank,
     may: u8,
-    flips: u64,
-    part: u16,
+    flips: Flips,
     best: Best,
     symbols: &'a [u8; 378],
     parts: &'a [u16; 64],
-    latest: &'a [u8; 1024],
-    earlier: &'a [u8; 64],
+    chains: &'a [u8; 1088],
 ) -> Best
-    requires { ⌜ Fits (planOf p) × Tabled p (now symbols) (now parts) (now latest) (now earlier) ⌝ }
-    requires { ⌜ (rank .0 ≤ p .size) × (1 < may) × (flips < 2 ^ p .size) × (part ≡ partOf (planOf p) (told p) flips) ⌝ }
-    requires { ⌜ best .count + patterns (p .size - rank .0) may ≤ 100000 ⌝ }
-    ensures { λ r. ⌜ asBest r ≡ bestOver (λ i. i) (tried (planOf p)) (p .size - rank .0) (rank .0) may flips (asBest best) ⌝ }
+    requires { ⌜ Fits (planOf p) × Tabled p (now symbols) (now parts) (now chains) × Made p flips ⌝ }
+    requires { ⌜ (rank .0 ≤ p .size) × (1 < may) × (best .count + patterns (p .size - rank .0) may ≤ 100000) ⌝ }
+    ensures { λ r. ⌜ asBest r ≡ bestOver (λ i. i) (tried (planOf p)) (p .size - rank .0) (rank .0) may (flips .ranks) (asBest best) ⌝ }
 {
     let from = rank.0;
     let size = p.size;
-    let mut b = offered(p, symbols, flips, part, best);
-    let mut j = run_on(parts, latest, part, rank, Rank(size), may).0;
+    let mut b = offered(p, symbols, flips, best);
+    let mut j = run_on(parts, chains, flips.part, rank, Rank(size), may).0;
     while from < j {
         let r = j - 1;
-        b = flip(
-            p,
-            Rank(r),
-            may,
-            flips,
-            part,
-            b,
-            symbols,
-            parts,
-            latest,
-            earlier,
-        );
-        j = run_on(parts, latest, part, rank, Rank(r), may).0;
+        b = flip(p, Rank(r), may, flips, b, symbols, parts, chains);
+        j = run_on(parts, chains, flips.part, rank, Rank(r), may).0;
     }
     b
 }
@@ -97,52 +81,27 @@ fn flip<'a>(
     p: Prepared,
     rank: Rank,
     may: u8,
-    flips: u64,
-    part: u16,
+    flips: Flips,
     best: Best,
     symbols: &'a [u8; 378],
     parts: &'a [u16; 64],
-    latest: &'a [u8; 1024],
-    earlier: &'a [u8; 64],
+    chains: &'a [u8; 1088],
 ) -> Best
-    requires { ⌜ Fits (planOf p) × Tabled p (now symbols) (now parts) (now latest) (now earlier) ⌝ }
-    requires { ⌜ (rank .0 < p .size) × (1 < may) × (flips < 2 ^ p .size) × (part ≡ partOf (planOf p) (told p) flips) ⌝ }
-    requires { ⌜ best .count + patterns (p .size - (rank .0 + 1)) (may - 1) ≤ 100000 ⌝ }
-    ensures { λ r. ⌜ asBest r ≡ bestOver (λ i. i) (tried (planOf p)) (p .size - (rank .0 + 1)) (rank .0 + 1) (may - 1) (flips ⊕ 2 ^ rank .0) (asBest best) ⌝ }
+    requires { ⌜ Fits (planOf p) × Tabled p (now symbols) (now parts) (now chains) × Made p flips ⌝ }
+    requires { ⌜ (rank .0 < p .size) × (1 < may) × (best .count + patterns (p .size - (rank .0 + 1)) (may - 1) ≤ 100000) ⌝ }
+    ensures { λ r. ⌜ asBest r ≡ bestOver (λ i. i) (tried (planOf p)) (p .size - (rank .0 + 1)) (rank .0 + 1) (may - 1) (flips .ranks ⊕ 2 ^ rank .0) (asBest best) ⌝ }
 {
     let r = rank.0;
     let i = r as usize;
-    let after = part ^ parts[i];
-    let flipped = flips ^ (1u64 << r);
+    let made = flips.with(r, parts[i]);
     let next = Rank(r + 1);
     if may == 2 {
-        return last_flips(
-            p,
-            next,
-            flipped,
-            after,
-            best,
-            symbols,
-            parts,
-            latest,
-            earlier,
-        );
+        return last_flips(p, next, made, best, symbols, parts, chains);
     }
-    keep(
-        p,
-        next,
-        may - 1,
-        flipped,
-        after,
-        best,
-        symbols,
-        parts,
-        latest,
-        earlier,
-    )
+    keep(p, next, may - 1, made, best, symbols, parts, chains)
 }
 
-// The best over all patterns of the reliable ranks with at most `order` flips.
+// The best over all patterns of the reliable ranks with at most `order` flips. What is lent is built once, where a flip is allowed.
 pub fn search(p: Prepared, order: u8) -> Best
     requires { ⌜ Fits (planOf p) × (order ≤ 3) ⌝ }
     ensures { λ r. ⌜ asBest r ≡ rankSearched (planOf p) order ⌝ }
@@ -153,33 +112,29 @@ pub fn search(p: Prepared, order: u8) -> Best
     }
     let told = (p.rows / 2) as usize;
     let parts = parts_of(&symbols, told);
-    let mut earlier = [0u8; 64];
-    let latest = chain(&parts, p.size as usize, &mut earlier);
+    let chains = chain(&parts, p.size as usize);
     let base = p.base;
     let part = base_part(base, told);
+    let unflipped = Flips { ranks: 0, part };
     if order == 1 {
         return last_flips(
             p,
             Rank(0),
-            0,
-            part,
+            unflipped,
             Best::none(),
             &symbols,
             &parts,
-            &latest,
-            &earlier,
+            &chains,
         );
     }
     keep(
         p,
         Rank(0),
         order,
-        0,
-        part,
+        unflipped,
         Best::none(),
         &symbols,
         &parts,
-        &latest,
-        &earlier,
+        &chains,
     )
 }

@@ -12,7 +12,7 @@ use Rattle.field.proofs.TestLaws.{below, is-false}
 use Rattle.field.proofs.XorLaws.{xor-zero, xor-half, xor-assoc, xor-swap}
 use Rattle.search.specs.Best.{Best}
 use Rattle.search.specs.Plan.{Plan}
-use Rattle.search.specs.ByRank.{xorBits, rankSymbol, rankBinary, rankWeighed, differing, seenIf, tried}
+use Rattle.search.specs.ByRank.{rankSymbol, rankBinary, rankWeighed, differing, seenIf, tried}
 use Rattle.search.specs.Part.{packed, partOf, columnPart}
 use Rattle.search.proofs.BitSumLaws.{xor-flip, xor-none}
 

@@ -1,7 +1,7 @@
 -- `weigh` meets its contract: in each turn the lowest rank that is left goes from `g` into the distance. The prepared word is none of
 -- the loop's variables, so the invariant speaks of every one that has these weights. Assumes nothing.
 use mathlib.Core.Path.{_≡_, refl}
-use Prim.Native.Nat.{ℕ, _+_, _^_, _<_}
+use Prim.Native.Nat.{_+_, _^_, _<_}
 use native.Mathlib.Omega.{arith}
 use lib.Count.{trailingZeros}
 use Rattle.search.specs.Plan.{Fits}

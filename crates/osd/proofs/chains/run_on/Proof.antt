@@ -1,5 +1,5 @@
 -- `run_on` meets its contract. The loop's invariant: the flips of the ranks from j on lead nowhere. Assumes nothing.
-use mathlib.Core.Path.{_≡_, sym, ap, subst, _∙_}
+use mathlib.Core.Path.{ap, subst}
 use mathlib.Core.Logic.{⊎-elim}
 use Prim.Native.Nat.{ℕ, _+_, _-_, _≤_, _<_}
 use native.Mathlib.Nat.{eq-or-lt-of-le}
@@ -7,15 +7,15 @@ use native.Mathlib.Omega.{arith}
 use lib.ListN.{getD}
 use borrow.Author.Needs.{needs}
 use Rattle.field.specs.Field.{_⊕_}
-use Rattle.osd.specs.Inner.Tables.{slotOf, Shut}
+use Rattle.osd.specs.Inner.Chains.{Shut}
 use Rattle.osd.proofs.chains.run_on.Statement.{statement}
 use Rattle.osd.proofs.chains.run_on.Tie as tie
 
 abbrev Inv-loop : tie.InvT-loop
-Inv-loop parts latest part may first j₀ j = (first ≤ j) × (j ≤ j₀) × ((i : ℕ) → j ≤ i → i < j₀ → Shut latest (i + 1) (part ⊕ getD parts i 0))
+Inv-loop parts chains part may first j₀ j = (first ≤ j) × (j ≤ j₀) × ((i : ℕ) → j ≤ i → i < j₀ → Shut chains (i + 1) (part ⊕ getD parts i 0))
 
 abbrev μ-loop : tie.MeasureT-loop
-μ-loop parts latest part may first j₀ j = j
+μ-loop parts chains part may first j₀ j = j
 
 returns : tie.Need-returns Inv-loop μ-loop
 returns c = (omega arith, omega arith, λ i a b. absurd (omega arith))
@@ -62,11 +62,11 @@ unfolding _⊕_
 loop-again c =
     let l = c .before .before .before .before .before .before .loop in
     let s = c .before .before .before .before .before .before .before .before .args in
-    let here : Shut (s .latest .now) (l .j - 1 + 1) (s .part ⊕ getD (s .parts .now) (l .j - 1) 0) = record {
+    let here : Shut (s .chains .now) (l .j - 1 + 1) (s .part ⊕ getD (s .parts .now) (l .j - 1) 0) = record {
       some = c .before .before .before .if2 .left;
-      none = omega (arith, c .if3 .left, ap (λ (x : ℕ). getD (s .latest .now) x 0) (c .before .before .slot .ensures .0));
+      none = omega (arith, c .if3 .left, ap (λ (x : ℕ). getD (s .chains .now) x 0) (c .before .before .slot .ensures .0));
     } in
-    (omega arith, omega arith, λ i a b. ⊎-elim (λ same. subst (λ (x : ℕ). Shut (s .latest .now) (x + 1) (s .part ⊕ getD (s .parts .now) x 0)) same here) (λ more. l .inv .2 i (omega arith) b) (eq-or-lt-of-le a))
+    (omega arith, omega arith, λ i a b. ⊎-elim (λ same. subst (λ (x : ℕ). Shut (s .chains .now) (x + 1) (s .part ⊕ getD (s .parts .now) x 0)) same here) (λ more. l .inv .2 i (omega arith) b) (eq-or-lt-of-le a))
 
 returns-4 : tie.Need-returns-4 Inv-loop μ-loop
 returns-4 c =

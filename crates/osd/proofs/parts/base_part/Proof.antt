@@ -1,6 +1,6 @@
 -- `base_part` meets its contract. The loop's invariant: the parts of the first q symbols are packed. Assumes nothing.
 use mathlib.Core.Path.{_≡_, refl, ap₂}
-use Prim.Native.Nat.{ℕ, _-_, _≤_}
+use Prim.Native.Nat.{_-_, _≤_}
 use native.Mathlib.Numerals.{add-one}
 use native.Mathlib.Omega.{arith}
 use lib.ListN.{getD}

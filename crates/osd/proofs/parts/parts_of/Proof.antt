@@ -6,7 +6,7 @@ use native.Mathlib.Omega.{arith}
 use lib.ListN.{length, getD, getD-replicate}
 use Rattle.field.specs.Field.{_⊕_}
 use Rattle.search.specs.Part.{packed}
-use Rattle.osd.specs.Inner.Tables.{PartsOf}
+use Rattle.osd.specs.Inner.Parts.{PartsOf}
 use Rattle.osd.proofs.parts.parts_of.Statement.{statement}
 use Rattle.osd.proofs.parts.parts_of.Tie as tie
 

@@ -9,12 +9,11 @@ use borrow.Author.Needs.{needs}
 use Rattle.search.specs.Best.{Best, none}
 use Rattle.search.specs.Search.{patterns, bestOver}
 use Rattle.search.specs.ByRank.{tried, rankSearched}
-use Rattle.search.specs.Part.{partOf}
 use Rattle.search.proofs.PartLaws.{part-start}
 use Rattle.search.proofs.SearchSteps.{search-early}
 use Rattle.prepare.specs.PlanOf.{planOf}
 use Rattle.prepare.specs.declared.Prepared.{Prepared}
-use Rattle.osd.specs.Inner.Tables.{told}
+use Rattle.osd.specs.Inner.Parts.{told, Made}
 use Rattle.osd.proofs.PatternCount.{patterns-most}
 use Rattle.osd.proofs.SkipTurn.{tabled-made}
 use Rattle.osd.proofs.patterns.search.Statement.{statement}
@@ -28,7 +27,9 @@ room size may x h l e = omega (arith, ap (λ (y : Best). y .count) e, patterns-m
 whole : (p : Prepared) (may order : ℕ) (x : Best) → x ≡ none → may ≡ order
     → bestOver (λ i. i) (tried (planOf p)) (p .size - 0) 0 may 0 x ≡ rankSearched (planOf p) order
 unfolding rankSearched
-whole p may order x e o = ap₂ (λ (k : ℕ). bestOver (λ i. i) (tried (planOf p)) k 0 may 0) (sub-zero (p .size)) e ∙ ap (λ (n : ℕ). bestOver (λ i. i) (tried (planOf p)) (p .size) 0 n 0 none) o
+whole p may order x e o =
+    ap₂ (λ (k : ℕ). bestOver (λ i. i) (tried (planOf p)) k 0 may 0) (sub-zero (p .size)) e
+    ∙ ap (λ (n : ℕ). bestOver (λ i. i) (tried (planOf p)) (p .size) 0 n 0 none) o
 
 two : (n : ℕ) → (n ≡ 0 → ⊥) → (n ≡ 1 → ⊥) → 1 < n
 two zero a b = absurd (a refl)
@@ -61,47 +62,49 @@ cast-chain : tie.Need-cast-chain
 cast-chain c = search needs
 
 chain-requires : tie.Need-chain-requires
-chain-requires c κs = (omega (arith, c .before .before .before .before .before .before .before .before .pre .0 .sizes), refl)
+chain-requires c κs = omega (arith, c .before .before .before .before .before .before .before .pre .0 .sizes)
 
 base-part-requires : tie.Need-base-part-requires
-base-part-requires c κs = omega (arith, c .before .before .before .before .before .before .before .before .before .before .pre .0 .rows)
+base-part-requires c κs = omega (arith, c .before .before .before .before .before .before .before .before .before .pre .0 .rows)
 
--- the part of the unflipped pattern
-start : (m : tie.After-base-part) → m .base-part .result ≡ partOf (planOf (m .before .before .before .before .before .before .before .before .before .before .before .args .p)) (told (m .before .before .before .before .before .before .before .before .before .before .before .args .p)) 0
-start m = let p = m .before .before .before .before .before .before .before .before .before .before .before .args .p in m .base-part .ensures ∙ sym (part-start (planOf p) (told p))
+-- nothing is flipped yet
+unflipped : (m : tie.After-base-part) → Made (m .before .before .before .before .before .before .before .before .before .before .args .p) (record { ranks = 0; part = m .base-part .result })
+unflipped m =
+    let p = m .before .before .before .before .before .before .before .before .before .before .args .p in
+    record { low = pow-pos (p .size); part = m .base-part .ensures ∙ sym (part-start (planOf p) (told p)) }
 
 none-requires-2 : tie.Need-none-requires-2
 none-requires-2 c κs = search needs
 
 last-flips-requires : tie.Need-last-flips-requires
 last-flips-requires c κs =
-    let m = c .before .before .before .before .before .before in
-    let s = m .before .before .before .before .before .before .before .before .before .before .before in
+    let m = c .before .before .before .before .before in
+    let s = m .before .before .before .before .before .before .before .before .before .before in
     let p = s .args .p in
-    let tabled = tabled-made p _ _ _ (s .pre .0 .sizes) (m .before .before .before .before .before .before .parts-of .ensures) (m .before .before .chain .ensures) in
-    ((s .pre .0, tabled), ((omega arith, pow-pos (p .size), start m), room (p .size) 1 _ (s .pre .0 .sizes) (omega arith) (c .before .before .before .before .none2 .ensures)))
+    let tabled = tabled-made p _ _ (s .pre .0 .sizes) (m .before .before .before .before .before .parts-of .ensures) (m .before .before .chain .ensures) in
+    ((s .pre .0, tabled, unflipped m), (omega arith, room (p .size) 1 _ (s .pre .0 .sizes) (omega arith) (c .before .before .before .none2 .ensures)))
 
 returns-2 : tie.Need-returns-2
 returns-2 c =
-    let m = c .before .before .before .before .before .before .before in
-    c .last-flips .ensures ∙ whole (m .before .before .before .before .before .before .before .before .before .before .before .args .p) 1 _ _ (c .before .before .before .before .before .none2 .ensures) (sym (c .before .before .before .before .before .before .if2 .taken))
+    let m = c .before .before .before .before .before .before in
+    c .last-flips .ensures ∙ whole (m .before .before .before .before .before .before .before .before .before .before .args .p) 1 _ _ (c .before .before .before .before .none2 .ensures) (sym (c .before .before .before .before .before .if2 .taken))
 
 none-requires-3 : tie.Need-none-requires-3
 none-requires-3 c κs = search needs
 
 keep-requires : tie.Need-keep-requires
 keep-requires c κs =
-    let m = c .before .before .before .before .before .before in
-    let s = m .before .before .before .before .before .before .before .before .before .before .before in
+    let m = c .before .before .before .before .before in
+    let s = m .before .before .before .before .before .before .before .before .before .before in
     let p = s .args .p in
-    let tabled = tabled-made p _ _ _ (s .pre .0 .sizes) (m .before .before .before .before .before .before .parts-of .ensures) (m .before .before .chain .ensures) in
-    let more = two (s .args .order) (m .before .before .before .before .before .before .before .before .before .if1 .left) (c .before .before .before .before .before .if2 .left) in
-    ((s .pre .0, tabled), ((omega arith, more, pow-pos (p .size), start m), room (p .size) (s .args .order) _ (s .pre .0 .sizes) (s .pre .1) (c .before .before .before .before .none3 .ensures)))
+    let tabled = tabled-made p _ _ (s .pre .0 .sizes) (m .before .before .before .before .before .parts-of .ensures) (m .before .before .chain .ensures) in
+    let more = two (s .args .order) (m .before .before .before .before .before .before .before .before .if1 .left) (c .before .before .before .before .if2 .left) in
+    ((s .pre .0, tabled, unflipped m), (omega arith, more, room (p .size) (s .args .order) _ (s .pre .0 .sizes) (s .pre .1) (c .before .before .before .none3 .ensures)))
 
 returns-3 : tie.Need-returns-3
 returns-3 c =
-    let m = c .before .before .before .before .before .before .before in
-    c .keep .ensures ∙ whole (m .before .before .before .before .before .before .before .before .before .before .before .args .p) _ _ _ (c .before .before .before .before .before .none3 .ensures) refl
+    let m = c .before .before .before .before .before .before in
+    c .keep .ensures ∙ whole (m .before .before .before .before .before .before .before .before .before .before .args .p) _ _ _ (c .before .before .before .before .none3 .ensures) refl
 
 pub search-spec : {M : Type 1} → statement M
 search-spec =

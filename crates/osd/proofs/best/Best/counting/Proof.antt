@@ -1,6 +1,4 @@
 -- `Best::counting` meets its contract: beside a farther candidate the best stays. Assumes nothing.
-use mathlib.Core.Path.{ap}
-use mathlib.Core.Bool.{true}
 use borrow.Author.Needs.{needs}
 use borrow.Author.Tests.{lt-ltb}
 use Rattle.search.specs.Best.{stays, better}

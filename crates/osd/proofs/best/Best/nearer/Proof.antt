@@ -3,7 +3,6 @@ use mathlib.Core.Path.{_≡_}
 use Prim.Native.Nat.{ℕ}
 use native.Mathlib.Omega.{arith}
 use borrow.Author.Needs.{needs}
-use borrow.Author.Tests.{ltb-true}
 use Rattle.osd.proofs.best.Best.nearer.Statement.{statement}
 use Rattle.osd.proofs.best.Best.nearer.Tie as tie
 

@@ -1,0 +1,41 @@
+-- The ranks in chains, each with the ranks whose columns' parts have one slot, and what is lent beside the prepared word. Everything but
+-- the records computes.
+--   slotOf z                       where the chains have the slot of a part
+--   lastIn parts n h               one more than the last rank below n whose part has the slot h, 0 where none has
+--   Chained parts size chains      the chains of all ranks
+--   Shut chains i z                a flip leads nowhere, as far as the chains tell
+--   Tabled p symbols parts chains  what is lent is that of the prepared word
+-- Assumes nothing.
+use mathlib.Core.Path.{_≡_}
+use mathlib.Core.Bool.{cond}
+use mathlib.Core.List.{List}
+use Prim.Native.Nat.{ℕ, zero, suc, _+_, _%_, _<_, _≤_}
+use lib.Dec.{eqb}
+use lib.ListN.{getD}
+use Rattle.search.specs.Part.{columnPart}
+use Rattle.prepare.specs.PlanOf.{planOf}
+use Rattle.prepare.specs.declared.Prepared.{Prepared}
+use Rattle.osd.specs.Inner.Parts.{told}
+
+-- past the links of the ranks: by the lowest ten bits
+abbrev pub slotOf : ℕ → ℕ
+slotOf z = z % 1024 + 64
+
+unfoldable pub lastIn : List ℕ → ℕ → ℕ → ℕ
+lastIn parts zero h = 0
+lastIn parts (suc n) h = cond (eqb (slotOf (getD parts n 0)) h) (suc n) (lastIn parts n h)
+
+-- from the last rank that has a slot to the one before it that has the same
+pub record Chained (parts : List ℕ) (size : ℕ) (chains : List ℕ) : Type 0 where
+  pub heads : (z : ℕ) → getD chains (slotOf z) 0 ≡ lastIn parts size (slotOf z)
+  pub links : (j : ℕ) → j < size → getD chains j 0 ≡ lastIn parts j (slotOf (getD parts j 0))
+
+-- the pattern with the part z is dropped, and no rank from i on has z's slot
+pub record Shut (chains : List ℕ) (i z : ℕ) : Type 0 where
+  pub some : z ≡ 0 → ⊥
+  pub none : getD chains (slotOf z) 0 ≤ i
+
+pub record Tabled (p : Prepared) (symbols parts chains : List ℕ) : Type 0 where
+  pub table : symbols ≡ p .symbols
+  pub columns : (j : ℕ) → j < p .size → getD parts j 0 ≡ columnPart (planOf p) (told p) j
+  pub chained : Chained parts (p .size) chains

@@ -1,0 +1,24 @@
+// The flips that are made on the way to a pattern.
+ghost use mathlib.Core.Path.{_≡_};
+ghost use Prim.Native.Nat.{_^_, _<_};
+ghost use Rattle.field.specs.Field.{_⊕_};
+
+// The ranks that are flipped, bit j for rank j, and the non-binary part of the pattern in which all others are kept.
+pub struct Flips {
+    pub ranks: u64,
+    pub part: u16,
+}
+
+impl Flips {
+    // One flip more, of rank r, whose column has this part.
+    pub fn with(self, r: u8, part: u16) -> Flips
+        requires { ⌜ r < 64 ⌝ }
+        ensures { λ f. ⌜ (f .ranks ≡ self .ranks ⊕ 2 ^ r) × (f .part ≡ self .part ⊕ part) ⌝ }
+    {
+        let bit = 1u64 << r;
+        Flips {
+            ranks: self.ranks ^ bit,
+            part: self.part ^ part,
+        }
+    }
+}
