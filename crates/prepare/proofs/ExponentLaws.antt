@@ -82,7 +82,8 @@ module _ (m : ℕ) (F : Laws m) where
     unfolding exponentOf grown
     exponent-grown zero p = ap (alphaTo m) (omega arith)
     exponent-grown (suc k) p =
-        pw-reduced (E k p + zechAt n size zech places k p) ∙ pw-add (E k p) (zechAt n size zech places k p) ∙ ap (λ (u : ℕ). times m u (B p k)) (exponent-grown k p)
+        pw-reduced (E k p + zechAt n size zech places k p) ∙ pw-add (E k p) (zechAt n size zech places k p)
+        ∙ ap (λ (u : ℕ). times m u (B p k)) (exponent-grown k p)
 
     -- the exponent of a cell: a difference that n keeps from going below 0
     pub cell-power : (o p : ℕ) → o < rows → p < n → ((v : ℕ) → v < rows → v ≢ o → p ≢ U v)

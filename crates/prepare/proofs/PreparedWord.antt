@@ -129,9 +129,11 @@ module _ (m t : ℕ) (known : Known m t) (n : ℕ) (long : n ≡ lengthOf m) (so
   cell-at : (q j : ℕ) → q < 2 * t → j < K → getD (p .symbols) (q * 63 + j) 0 ≡ cell m (1 - 1) R K j (R (K + q))
   cell-at q j hq hj =
       let cells : Cells m K (2 * t) (b .places) (p .symbols) =
-      subst (λ (u : ℕ). Cells m K u (b .places) (p .symbols)) (made .rows) (subst (λ (u : ℕ). Cells m u (p .rows) (b .places) (p .symbols)) (made .size) (made .symbols)) in
+      subst (λ (u : ℕ). Cells m K u (b .places) (p .symbols)) (made .rows)
+      (subst (λ (u : ℕ). Cells m u (p .rows) (b .places) (p .symbols)) (made .size) (made .symbols)) in
       cells q j hq hj
-      ∙ short-cong m 1 (2 * t) (outsideOf K (b .places)) (λ v. R (K + v)) q (getD (b .places) j 0) (R j) hq (λ v l. place-at (K + v) (omega (arith, fit))) (place-at j (omega arith))
+      ∙ short-cong m 1 (2 * t) (outsideOf K (b .places)) (λ v. R (K + v)) q (getD (b .places) j 0) (R j) hq
+      (λ v l. place-at (K + v) (omega (arith, fit))) (place-at j (omega arith))
       ∙ sym (cell-is-short m F 1 (2 * t) (le-refl 1) R (sorted .order) fit j q hj hq)
 
   weight-at : (i : ℕ) → i < L → getD (p .weight) i 0 ≡ getD (r .reliability) (R i) 0

@@ -51,7 +51,9 @@ module _ (symbols : List ℕ) (bits size : ℕ) where
       (record {
         full = e;
         low = mod-lt bits (pow-pos size);
-        left = λ q _. ap (λ (u : ℕ). u ⊕ rowSum symbols (bits % 2 ^ size) size q) (zeros-at l t q) ∙ zero-xor (rowSum symbols (bits % 2 ^ size) size q) ∙ sum-low q;
+        left = λ q _.
+            let r = rowSum symbols (bits % 2 ^ size) size q in
+            ap (λ (u : ℕ). u ⊕ r) (zeros-at l t q) ∙ zero-xor r ∙ sum-low q;
       })
 
   -- one bit less is left

@@ -50,7 +50,8 @@ symbol-table-requires c κs =
       few = omega (arith, known .t-high);
       long = e;
       all = omega arith;
-      each = places-each m (n .result) (known .m-low) (known .m-high) e (start .args .soft .now) (received .result) (received .ensures) (order .result) (order .ensures) (ranks .result) (ranks .ensures);
+      each = places-each m (n .result) (known .m-low) (known .m-high) e (start .args .soft .now) (received .result) (received .ensures)
+          (order .result) (order .ensures) (ranks .result) (ranks .ensures);
     }
 
 row-sums-requires : tie.Need-row-sums-requires
@@ -74,7 +75,9 @@ cast-t28 c =
     let e = c .before .before .before .before .before .before .before .before .before .before .before .before .before .length-of .ensures .0 in
     let f = c .before .before .before .before .before .before .before .before .before .before .before .before .reliable-size .ensures in
     let ranks = c .before .before .before .before .before .before .before .gather in
-    let few = sides-lt n size (c .before .before .before .before .before .before .before .before .before .before .before .receive .result .hards) (c .before .before .before .before .before .before .before .before .before .order-of .result) (omega arith) (omega (arith, start .pre .0 .t-high)) in
+    let hards = c .before .before .before .before .before .before .before .before .before .before .before .receive .result .hards in
+    let order = c .before .before .before .before .before .before .before .before .before .order-of .result in
+    let few = sides-lt n size hards order (omega arith) (omega (arith, start .pre .0 .t-high)) in
     record { fits = omega (arith, few, ap (λ (u : ℕ). u / 2 ^ size) (ranks .ensures .bits)) }
 
 returns : tie.Need-returns

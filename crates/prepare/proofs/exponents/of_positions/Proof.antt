@@ -26,7 +26,8 @@ abbrev μ-loop : tie.MeasureT-loop
 μ-loop zech places n size rows list₀ v₀ list v = rows - v
 
 -- the place of row v is a position
-placed : (c : tie.In-loop Inv-loop μ-loop) → getD (c .before .before .before .args .places .now) (c .before .before .before .args .size + c .before .loop .v) 0 < c .before .before .before .args .n
+placed : (c : tie.In-loop Inv-loop μ-loop) → getD (c .before .before .before .args .places .now) (c .before .before .before .args .size + c .before .loop .v) 0
+    < c .before .before .before .args .n
 placed c = c .before .before .before .pre .0 .inside (c .before .before .before .args .size + c .before .loop .v) (omega arith)
 
 cast-positions : tie.Need-cast-positions Inv-loop μ-loop
@@ -75,7 +76,8 @@ loop-again c =
     let l = c .before .before .before .before .loop in (
       omega arith,
       c .add-run .ensures .full,
-      exponents-more (a .n) (a .size) (a .zech .now) (a .places .now) (l .v) (l .list) _ (s .pre .0 .some) (s .pre .0 .short) (l .inv .2) (c .add-run .ensures),
+      exponents-more (a .n) (a .size) (a .zech .now) (a .places .now) (l .v) (l .list) _
+          (s .pre .0 .some) (s .pre .0 .short) (l .inv .2) (c .add-run .ensures),
     )
 
 returns : tie.Need-returns Inv-loop μ-loop

@@ -43,7 +43,8 @@ abbrev μ-loop : tie.MeasureT-loop
 μ-loop zech places n size rows table₀ list q₀ table q = rows - q
 
 -- the place of row q is a position
-placed : (c : tie.In-loop Inv-loop μ-loop) → getD (c .before .before .before .args .places .now) (c .before .before .before .args .size + c .before .loop .q) 0 < c .before .before .before .args .n
+placed : (c : tie.In-loop Inv-loop μ-loop) → getD (c .before .before .before .args .places .now) (c .before .before .before .args .size + c .before .loop .q) 0
+    < c .before .before .before .args .n
 placed c = c .before .before .before .pre .0 .inside (c .before .before .before .args .size + c .before .loop .q) (omega arith)
 
 of-positions-requires : tie.Need-of-positions-requires Inv-loop μ-loop
@@ -93,7 +94,8 @@ loop-again c =
     let l = c .before .before .before .before .before .loop in
     let list = c .before .before .before .before .before .before .of-positions in (
       omega arith,
-      cells-more (a .n) (a .size) (a .rows) (a .zech .now) (a .places .now) (s .pre .0) (l .q) (list .result) (l .table) _ (omega arith) (list .ensures) (l .inv .1)
+      cells-more (a .n) (a .size) (a .rows) (a .zech .now) (a .places .now) (s .pre .0) (l .q)
+          (list .result) (l .table) _ (omega arith) (list .ensures) (l .inv .1)
           (c .put-row .ensures),
     )
 

@@ -55,8 +55,11 @@ loop-again c =
     let s = c .before .before .before .before in
     let a = s .args in
     let l = c .before .before .before .loop in
-    let x = getD (a .powers .now) (getD (a .exponents .now) (l .q * 64 + a .p) 0) 0 in
-    (omega arith, written-more (λ k. k * 63 + a .j) _ (a .table .now) (l .q) (l .table) (l .inv .1) (λ k lk e. omega arith) (omega (arith, s .pre .3)) x refl)
+    let x = getD (a .powers .now) (getD (a .exponents .now) (l .q * 64 + a .p) 0) 0 in (
+      omega arith,
+      written-more (λ k. k * 63 + a .j) _ (a .table .now) (l .q) (l .table) (l .inv .1)
+          (λ k lk e. omega arith) (omega (arith, s .pre .3)) x refl,
+    )
 
 returns : tie.Need-returns Inv-loop μ-loop
 returns c =

@@ -30,7 +30,8 @@ puts-row n from own q zech list before after short low full below k e w = record
 }
 
 abbrev Inv-loop : tie.InvT-loop
-Inv-loop zech list n from own q rows₀ p₀ rows p = (p ≤ 64) × Written (λ i. q * 64 + i) (λ i. getD list i 0 + n - (own + getD zech (from + i) 0) % n) rows₀ p rows
+Inv-loop zech list n from own q rows₀ p₀ rows p =
+    (p ≤ 64) × Written (λ i. q * 64 + i) (λ i. getD list i 0 + n - (own + getD zech (from + i) 0) % n) rows₀ p rows
 
 abbrev μ-loop : tie.MeasureT-loop
 μ-loop zech list n from own q rows₀ p₀ rows p = 64 - p
@@ -82,7 +83,8 @@ loop-again c =
     let l = c .before .before .before .before .loop in
     let at = getD (a .list .now) (l .p) 0 in (
       omega arith,
-      written-more (λ i. a .q * 64 + i) _ (a .rows .now) (l .p) (l .rows) (l .inv .1) (λ j lj e. omega arith) (omega (arith, s .pre .1 .0)) (at + a .n - c .before .plus .result)
+      written-more (λ i. a .q * 64 + i) _ (a .rows .now) (l .p) (l .rows) (l .inv .1) (λ j lj e. omega arith) (omega (arith, s .pre .1 .0))
+          (at + a .n - c .before .plus .result)
           (ap (λ (u : ℕ). at + a .n - u) (c .before .plus .ensures .0)),
     )
 

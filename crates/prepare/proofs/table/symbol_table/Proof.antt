@@ -122,7 +122,8 @@ returns c =
     let powers = c .before .before .before .before .before .powers in
     let l = c .before .loop in
     let e : l .j ≡ a .size = omega arith in
-    columns-cells (a .m) (a .n) (a .size) (a .rows) (powers .result) (zech .result) (exponents .result) (a .places .now) (l .table) (s .pre) (powers .ensures) (zech .ensures)
+    columns-cells (a .m) (a .n) (a .size) (a .rows) (powers .result) (zech .result) (exponents .result) (a .places .now)
+    (l .table) (s .pre) (powers .ensures) (zech .ensures)
     (exponents .ensures) (subst (λ (u : ℕ). Columns (powers .result) (exponents .result) (a .places .now) u (l .table)) e (l .inv .1))
 
 pub symbol-table-spec : {M : Type 1} → statement M

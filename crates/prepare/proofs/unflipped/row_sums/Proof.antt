@@ -51,7 +51,8 @@ loop-again : tie.Need-loop-again Inv-loop μ-loop
 loop-again c =
     let s = c .before .before .before in
     let l = c .before .before .loop in
-    summed-more (s .args .symbols .now) (s .args .bits) (s .args .size) (l .sums) (c .plus-column .result) (l .rest) (some (c .before)) (s .pre) (l .inv) (c .plus-column .ensures)
+    summed-more (s .args .symbols .now) (s .args .bits) (s .args .size) (l .sums) (c .plus-column .result) (l .rest)
+    (some (c .before)) (s .pre) (l .inv) (c .plus-column .ensures)
 
 returns : tie.Need-returns Inv-loop μ-loop
 returns c =
