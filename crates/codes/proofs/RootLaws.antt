@@ -129,17 +129,22 @@ module _ (m : ℕ) (F : Laws m) where
       go (yes p) f e = f e
       go (no p) f e = let hk = h k (le-refl (suc k)) p in f (cancel m F (productOver m x y (others X k i)) (x ⊕ X k) (product-lt x y (others X k i) hy) (hk .0) (hk .1) e)
 
+  -- at one of k different places, the factors of the others are not 0
+  pub apart-cancel : (k : ℕ) (U : ℕ → ℕ) → Places m k U → (i y : ℕ) → i < k → y < 2 ^ m → productOver m (pw (U i)) y (others (λ v. pw (U v)) k i) ≡ 0 → y ≡ 0
+  apart-cancel k U pl i y hi hy =
+      others-cancel (λ v. pw (U v)) k i (pw (U i)) y hy
+      (λ j hj ne. (
+        xor-lt m (pw (U i)) (pw (U j)) (pw-lt (U i)) (pw-lt (U j)),
+        differ (U i) (U j) (pl .inside i hi) (pl .inside j hj) (λ e. ne (sym (pl .apart i j hi hj e))),
+      ))
+
   -- (A) a word that is zero but for k positions, with k roots or more one after the other, is zero there too
   pub vanish : (c : ℕ → ℕ) (b r k : ℕ) (U : ℕ → ℕ) → ZeroFrom m b r c → k ≤ r → WordOver m c → Places m k U
       → ((p : ℕ) → p < n → (c p ≡ 0) ⊎ ((j : ℕ) × (j < k) × (p ≡ U j))) → (i : ℕ) → i < k → c (U i) ≡ 0
   vanish c b r k U h l w pl out i hi =
       cancel m F (c (U i)) (pw (U i * b)) (w (U i) (pl .inside i hi)) (pw-lt (U i * b)) (pw-pos (U i * b))
       (comm (pw (U i * b)) (c (U i))
-      ∙ others-cancel X k i (pw (U i)) (c (U i) ∗ pw (U i * b)) (times-lt (c (U i)) (pw (U i * b)))
-      (λ j hj ne. (
-        xor-lt m (pw (U i)) (X j) (pw-lt (U i)) (pw-lt (U j)),
-        differ (U i) (U j) (pl .inside i hi) (pl .inside j hj) (λ e. ne (sym (pl .apart i j hi hj e))),
-      ))
+      ∙ apart-cancel k U pl i (c (U i) ∗ pw (U i * b)) hi (times-lt (c (U i)) (pw (U i * b)))
       (sym (xorsum-one n f (U i) (pl .inside i hi) zeros) ∙ annihilate c b r h (others X k i) b (le-refl b) (omega (arith, others-lt X k i hi))))
     where
       X : ℕ → ℕ

@@ -12,11 +12,11 @@ use Rattle.field.specs.Field.{_⊕_, xorSum, times, inverseOf, alphaTo, lengthO
 use Rattle.field.specs.Laws.{Laws}
 use Rattle.field.proofs.TestLaws.{ne→not, not-eqb}
 use Rattle.field.proofs.TotalLaws.{only-yes, only-no}
-use Rattle.field.proofs.XorLaws.{xor-zero, zero-xor, xor-eq, xor-lt}
+use Rattle.field.proofs.XorLaws.{xor-zero, zero-xor, xor-eq}
 use Rattle.field.proofs.XorSumLaws.{xorsum-cong, xorsum-xor, xorsum-one}
 use Rattle.field.proofs.RingLaws.{zero-times}
 use Rattle.codes.specs.Lagrange.{others, productOver, Places, AllPlaces, cell, lagrange, spread, shortCell}
-use Rattle.codes.proofs.RootLaws.{annihilate, pw-lt, pw-pos, one-lt, differ, product-lt, product-zero, times-product, others-lt, others-zero, others-cancel}
+use Rattle.codes.proofs.RootLaws.{annihilate, pw-lt, pw-pos, one-lt, product-lt, product-zero, times-product, others-lt, others-zero, apart-cancel}
 use Rattle.codes.proofs.LagrangeLaws.{lagrange-at, lagrange-roots}
 
 part : (b : Bool) (x : ℕ) → x ≡ only b x ⊕ only (not b) x
@@ -120,15 +120,15 @@ module _ (m : ℕ) (F : Laws m) (b r : ℕ) (first : b ≤ 1) (R : ℕ → ℕ) 
     unfolding spread
     spread-lt = product-lt m F (alphaTo m (U o)) (alphaTo m (U o * b)) _ (pw-lt m F (U o * b))
 
+    outside : Places m r U
+    outside = record {
+      inside = λ v l. ord .places .inside (K + v) (omega arith);
+      apart = λ u v hu hv e. let q : K + u ≡ K + v = ord .places .apart (K + u) (K + v) (omega arith) (omega arith) e in omega arith;
+    }
+
     spread-pos : spread m b r U o (U o) ≢ 0
     unfolding spread
-    spread-pos e =
-        pw-pos m F (U o * b) (others-cancel m F (λ v. alphaTo m (U v)) r o (alphaTo m (U o)) (alphaTo m (U o * b)) (pw-lt m F (U o * b))
-        (λ v hv n. (
-          xor-lt m (alphaTo m (U o)) (alphaTo m (U v)) (pw-lt m F (U o)) (pw-lt m F (U v)),
-          differ m F (U o) (U v) (ord .places .inside (K + o) (omega arith)) (ord .places .inside (K + v) (omega arith))
-              (λ q. let z : K + o ≡ K + v = ord .places .apart (K + o) (K + v) (omega arith) (omega arith) q in n (omega arith)),
-        )) e)
+    spread-pos e = pw-pos m F (U o * b) (apart-cancel m F r U outside o (alphaTo m (U o * b)) ho (pw-lt m F (U o * b)) e)
 
     pub cell-is-short : cell m (1 - b) R K j (U o) ≡ shortCell m b r U o (R j)
     unfolding shortCell

@@ -8,10 +8,10 @@ use native.Mathlib.Decide.{ℕ-discrete}
 use native.Mathlib.Omega.{arith}
 use Rattle.field.specs.Field.{_⊕_, times, inverseOf, alphaTo, lengthOf}
 use Rattle.field.specs.Laws.{Laws}
-use Rattle.field.proofs.XorLaws.{zero-xor, xor-lt}
+use Rattle.field.proofs.XorLaws.{zero-xor}
 use Rattle.field.proofs.RingLaws.{ring}
 use Rattle.codes.specs.Lagrange.{Places, unless, others, productOver, spread, shortCell}
-use Rattle.codes.proofs.RootLaws.{pw-lt, pw-pos, differ, product-lt, others-cancel}
+use Rattle.codes.proofs.RootLaws.{pw-lt, pw-pos, product-lt, apart-cancel}
 
 module _ (m : ℕ) where
   -- y times B 0, .., B (k - 1)
@@ -101,12 +101,7 @@ module _ (m : ℕ) (F : Laws m) where
 
       spread-pos : spread m b r U o (U o) ≢ 0
       unfolding spread
-      spread-pos e =
-          pw-pos m F (U o * b) (others-cancel m F X r o (alphaTo m (U o)) (alphaTo m (U o * b)) (pw-lt m F (U o * b))
-          (λ v lv ne. (
-            xor-lt m (alphaTo m (U o)) (X v) (pw-lt m F (U o)) (pw-lt m F (U v)),
-            differ m F (U o) (U v) (places .inside o ho) (places .inside v lv) (apart v lv ne),
-          )) e)
+      spread-pos e = pw-pos m F (U o * b) (apart-cancel m F r U places o (alphaTo m (U o * b)) ho (pw-lt m F (U o * b)) e)
 
       spread-own : spread m b r U o (U o) ≡ productOver m 0 1 (others X r o) ∗ Q (U o)
       spread-own =
