@@ -64,7 +64,7 @@ module _ (p : Prepared) (symbols parts chains : List ℕ) (tab : Tabled p symbol
         (omega (arith, shut .none, tab .chained .heads z)) b (ap slotOf (q ∙ e)))
 
     -- ranks from i to j that are passed over
-    pub passed : (i j may : ℕ) (x : Best) → i ≤ j → j ≤ p .size → 1 < may
+    passed : (i j may : ℕ) (x : Best) → i ≤ j → j ≤ p .size → 1 < may
         → ((h : ℕ) → i ≤ h → h < j → (may ≤ 2) × Shut chains (h + 1) (part ⊕ F h)) → over p i may flips x ≡ over p j may flips x
     passed i j may x h l two shut =
         search-run (λ i. i) (tried (planOf p)) (p .size) i j may flips x h l (λ e. omega arith)

@@ -13,6 +13,13 @@ ghost use Rattle.prepare.specs.PlanOf.{planOf};
 ghost use Rattle.osd.specs.As.{asBest, asWeighed};
 ghost use Rattle.osd.specs.Inner.Parts.{Made};
 
+// The hard decisions as a word.
+fn word_of(hards: [u8; 8]) -> u64
+    ensures { λ r. ⌜ r ≡ unpacked hards 8 ⌝ }
+{
+    frame::word_in(&hards, 8)
+}
+
 // The soft distance of the word that differs from the hard decisions at these ranks, bit j for rank j.
 fn weigh(p: Prepared, ranks: u64) -> u16
     requires { ⌜ Fits (planOf p) × (ranks < 2 ^ (p .size + p .rows)) ⌝ }
@@ -27,13 +34,6 @@ fn weigh(p: Prepared, ranks: u64) -> u16
         g = g & (g - 1);
     }
     distance
-}
-
-// The hard decisions as a word.
-fn word_of(hards: [u8; 8]) -> u64
-    ensures { λ r. ⌜ r ≡ unpacked hards 8 ⌝ }
-{
-    frame::word_in(&hards, 8)
 }
 
 // That word, with its distance and the number of these ranks.
