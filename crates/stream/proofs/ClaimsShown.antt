@@ -1,0 +1,49 @@
+-- The claims of specs/Claims, each under its name. Assumes nothing.
+use mathlib.Core.Path.{_≡_, refl, ap, sym, _∙_}
+use mathlib.Core.Bool.{Bool, true, false}
+use mathlib.Core.List.{List, [], _∷_, _++_, append-nil}
+use Prim.Native.Nat.{ℕ}
+use Rattle.lines.specs.Header.{headerOf}
+use Rattle.lines.specs.Answer.{goesOn}
+use Rattle.lines.specs.declared.header.Header.{Header}
+use Rattle.stream.specs.Program.{newline}
+use Rattle.stream.specs.Awaited.{wordsOrEnd, phaseAfter, lastSays}
+use Rattle.stream.specs.Memory.{Memory, start, blockSays, afterBlock, endSays, blocksSay}
+use Rattle.stream.specs.Claims.{joined, BlocksDoNotMatter, AnsweredAtOnce, NothingAfterTheEnd}
+use Rattle.stream.specs.declared.phase.Phase.{Phase}
+use Rattle.stream.specs.declared.phase.Phase.the-variants.{First, Words, Ended}
+use Rattle.stream.proofs.StillLaws.{still, still-block, still-end, still-start}
+use Rattle.stream.proofs.BlockLaws.{after-append}
+
+blocks-still : (m : Memory) (blocks : List (List ℕ)) → blocksSay m blocks ≡ still m (joined blocks)
+unfolding blocksSay
+blocks-still m [] = sym (still-end m)
+blocks-still m (block ∷ blocks) =
+    ap (λ (l : List ℕ). blockSays m block ++ l) (blocks-still (afterBlock m block) blocks) ∙ sym (still-block m block (joined blocks))
+
+pub blocks-do-not-matter : BlocksDoNotMatter
+blocks-do-not-matter blocks = blocks-still start blocks ∙ still-start (joined blocks)
+
+words-or-nothing : (b : Bool) (h : Header) → lastSays (wordsOrEnd b h) [] ≡ []
+words-or-nothing true h = refl
+words-or-nothing false h = refl
+
+-- after a line the end of the input adds nothing
+line-then-end : (phase : Phase) (text : List ℕ) → lastSays (phaseAfter phase text) [] ≡ []
+line-then-end First text = words-or-nothing (goesOn text) (headerOf text)
+line-then-end (Words h) text = refl
+line-then-end Ended text = refl
+
+newline-then-end : (m : Memory) → endSays (afterBlock m (newline ∷ [])) ≡ []
+unfolding afterBlock
+newline-then-end m = line-then-end (m .phase) (m .text)
+
+pub answered-at-once : AnsweredAtOnce
+answered-at-once input =
+    let all = input ++ newline ∷ [] in
+    let ends : endSays (afterBlock start all) ≡ [] = ap endSays (after-append start input (newline ∷ [])) ∙ newline-then-end (afterBlock start input) in
+    sym (append-nil (blockSays start all)) ∙ ap (λ (l : List ℕ). blockSays start all ++ l) (sym (still-end (afterBlock start all) ∙ ends))
+    ∙ sym (still-block start all []) ∙ ap (still start) (append-nil all) ∙ still-start all
+
+pub nothing-after-the-end : NothingAfterTheEnd
+nothing-after-the-end text blocks = blocks-still (record { phase = Ended; text = text }) blocks

@@ -1,0 +1,7 @@
+pub mod KeptLaws
+pub mod StillLaws
+pub mod BlockLaws
+pub mod PutLaws
+pub mod BlockSteps
+pub mod ClaimsShown
+pub mod Anchors

@@ -1,0 +1,3 @@
+pub mod Found
+pub mod Held
+pub mod Finished

@@ -1,0 +1,13 @@
+-- Where a line ends in a block. Assumes nothing.
+use mathlib.Core.Path.{_≡_}
+use mathlib.Core.List.{List}
+use Prim.Native.Nat.{ℕ, _<_, _≤_}
+use lib.ListN.{length, getD}
+use Rattle.stream.specs.Program.{newline}
+
+-- no newline from the one place to the other; there one stands, or the block ends
+pub record Found (block : List ℕ) (from end : ℕ) : Type 0 where
+  pub after : from ≤ end
+  pub within : end ≤ length block
+  pub none : (k : ℕ) → from ≤ k → k < end → getD block k 0 ≡ newline → ⊥
+  pub here : end < length block → getD block end 0 ≡ newline

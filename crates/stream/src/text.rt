@@ -1,0 +1,46 @@
+// Where a line ends, and the bytes of one that has not ended.
+ghost use mathlib.Core.Path.{_≡_};
+ghost use Prim.Native.Nat.{_≤_, min};
+ghost use lib.ListN.{length};
+ghost use Rattle.stream.specs.Inner.Found.{Found};
+ghost use Rattle.stream.specs.Inner.Held.{Holds};
+
+const NEWLINE: u8 = 10;
+
+// As many bytes of an unfinished line are held: one more than a line may have, so that a longer one is known.
+const MOST: usize = 513;
+
+// Where the first newline stands, from the given place on; the block's length where there is none.
+pub fn find_newline(block: &[u8], from: usize) -> usize
+    requires { ⌜ from ≤ length (now block) ⌝ }
+    ensures { λ r. ⌜ Found (now (block .entry)) from r ⌝ }
+{
+    let mut i = from;
+    while i < block.len() {
+        if block[i] == NEWLINE {
+            return i;
+        }
+        i += 1;
+    }
+    i
+}
+
+fn least(a: usize, b: usize) -> usize
+    ensures { λ r. ⌜ r ≡ min a b ⌝ }
+{
+    if a < b { a } else { b }
+}
+
+// Adds a part of a line to the bytes that are held, as far as there is room, and gives their number.
+pub fn hold(line: &mut [u8], held: usize, part: &[u8]) -> usize
+    requires { ⌜ (held ≤ 513) × (length (now line) ≡ 513) ⌝ }
+    ensures { λ r. ⌜ Holds (now (line .entry)) held (now (part .entry)) r (now (line .exit)) ⌝ }
+{
+    let count = least(MOST - held, part.len());
+    let mut i = 0;
+    while i < count {
+        line[held + i] = part[i];
+        i += 1;
+    }
+    held + count
+}
