@@ -5,35 +5,29 @@
 --   answers-refused, answers-ok               what decode gave for its values
 --   header-long, header-answer-long, word-answer-long   a line of more than 512 bytes
 --   missing-header                            the first line of an empty input
---   header-answer-short, word-answer-short    how long the answers are
 -- Assumes nothing.
-use mathlib.Core.Path.{_≡_, refl, sym, ap, subst, _∙_}
-use mathlib.Core.Bool.{Bool, true, false, cond, _&&_}
-use mathlib.Core.List.{List, [], _∷_, map}
-use Prim.Native.Nat.{ℕ, _≤_, _<_}
-use native.Mathlib.Nat.{le-trans}
+use mathlib.Core.Path.{_≡_, refl, sym, ap, _∙_}
+use mathlib.Core.Bool.{Bool, true, false, cond}
+use mathlib.Core.List.{List, []}
+use Prim.Native.Nat.{ℕ, _<_}
 use native.Mathlib.Omega.{arith}
 use borrow.Author.Tests.{eq-eqb, ne-eqb, lt-leb}
-use lib.Dec.{T, eqb}
+use lib.Dec.{eqb}
 use lib.IntN.{ℤ}
 use lib.ListN.{length, take, replicate}
-use Rattle.field.proofs.TestLaws.{and-right}
 use Rattle.codes.specs.Code.{Known}
 use Rattle.frame.specs.Shape.{bytesOf}
-use Rattle.frame.specs.Refusal.{unknownCode, tooShort, highOrder}
 use Rattle.frame.proofs.RefusalLaws.{decode-passed}
 use Rattle.decode.specs.Decode.{DecodeAnswers, refused, nothing, decoded}
-use Rattle.decode.specs.Called.{resultOf}
 use Rattle.decode.specs.declared.Decoding.{Decoding}
 use Rattle.decode.proofs.CalledLaws.{answers-as-result}
-use Rattle.lines.specs.Line.{lineFits, parts, isNumber, every}
+use Rattle.lines.specs.Line.{parts, isNumber}
 use Rattle.lines.specs.Header.{headerOf}
-use Rattle.lines.specs.WordLine.{isValue, valueOf, valuesOf}
+use Rattle.lines.specs.WordLine.{valuesOf}
 use Rattle.lines.specs.Output.{headerLine, lineLine, refusedLine, okLine}
 use Rattle.lines.specs.Answer.{headerRefusal, headerSays, headerAnswer, callOf, resultLine, wordAnswer}
 use Rattle.lines.specs.declared.header.Header.{Header}
 use Rattle.lines.proofs.HeaderSteps.{too-long}
-use Rattle.lines.proofs.BoundLaws.{first-most, sizes-most, result-small, refused-length, result-length}
 
 module _ (h : Header) where
   pub says-header : h .good ≡ false → headerSays h ≡ headerLine
@@ -100,30 +94,3 @@ word-answer-long h a b p q = answers-line h a (rw (lt-leb (length a) 512 p)) ∙
 pub missing-header : headerAnswer [] ≡ headerLine
 unfolding headerAnswer headerOf parts isNumber
 missing-header = says-header (headerOf []) refl
-
--- an answer fits the room that it is given
-refusal-most : (h : Header) → headerRefusal h ≤ 3
-unfolding headerRefusal
-refusal-most h = first-most (unknownCode (h .m) (h .t) ∷ tooShort (h .m) (h .t) (h .s) ∷ highOrder (h .order) ∷ []) 3 tt
-
-pub header-answer-short : (text : List ℕ) → length (headerAnswer text) ≤ 16
-unfolding headerAnswer headerSays headerLine
-header-answer-short text = go (h .good) (eqb (headerRefusal h) 0)
-  where
-    h : Header
-    h = headerOf text
-
-    go : (t u : Bool) → length (cond t (cond u [] (refusedLine (headerRefusal h))) headerLine) ≤ 16
-    go true true = omega arith
-    go true false = le-trans (refused-length (headerRefusal h) (omega (arith, refusal-most h))) (omega arith)
-    go false u = omega arith
-
-pub word-answer-short : (h : Header) (text : List ℕ) → length (wordAnswer h text) ≤ 64
-unfolding wordAnswer valuesOf lineLine
-word-answer-short h text = go (lineFits text && every isValue (parts text)) refl
-  where
-    go : (t : Bool) → (lineFits text && every isValue (parts text)) ≡ t → length (cond t (resultLine (h .m) (resultOf (callOf h (map valueOf (parts text))))) lineLine) ≤ 64
-    go true e =
-        let sizes = sizes-most (parts text) (and-right (lineFits text) (every isValue (parts text)) (subst T (sym e) tt)) in
-        le-trans (result-length (h .m) (resultOf (callOf h (map valueOf (parts text)))) (result-small (callOf h (map valueOf (parts text))) sizes)) (omega arith)
-    go false e = omega arith

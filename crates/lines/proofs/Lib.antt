@@ -8,6 +8,5 @@ pub mod ValuesSteps
 pub mod DecimalLaws
 pub mod PutLaws
 pub mod PutSteps
-pub mod BoundLaws
 pub mod AnswerLaws
 pub mod Anchors

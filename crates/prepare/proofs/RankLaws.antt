@@ -1,5 +1,5 @@
 -- The bits of a word above a place, and those of the places outside. Assumes nothing.
-use mathlib.Core.Path.{_≡_, refl, sym, ap, ap₂, subst, _∙_}
+use mathlib.Core.Path.{_≡_, sym, ap, subst, _∙_}
 use mathlib.Core.List.{List}
 use Prim.Native.Nat.{ℕ, zero, suc, _+_, _-_, _*_, _/_, _^_, _<_, _≤_}
 use native.Mathlib.Nat.{pow-suc, div-one, div-div-eq-div-mul, lt-of-lt-of-le, pow-le-pow-right}

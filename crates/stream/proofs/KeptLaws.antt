@@ -1,5 +1,5 @@
 -- Of a line's text the first 513 bytes are enough: a line of more than 512 is answered as any other such line. Assumes nothing.
-use mathlib.Core.Path.{_≡_, refl, ap, sym, _∙_}
+use mathlib.Core.Path.{_≡_, refl, ap}
 use mathlib.Core.Logic.{by-cases}
 use mathlib.Core.List.{List, [], _∷_, _++_}
 use Prim.Native.Nat.{ℕ, zero, suc, _<_}
@@ -7,38 +7,27 @@ use native.Mathlib.Decide.{decLt}
 use native.Mathlib.Omega.{arith}
 use lib.ListN.{length, take, length-take}
 use lib.Seq.{take-all}
-use Rattle.lines.specs.Line.{parts, isNumber}
-use Rattle.lines.specs.Header.{headerOf, wrongHeader}
-use Rattle.lines.specs.Output.{headerLine, lineLine}
+use Rattle.lines.specs.Header.{headerOf}
 use Rattle.lines.specs.Answer.{headerAnswer, wordAnswer}
-use Rattle.lines.proofs.HeaderSteps.{header-long}
-use Rattle.lines.proofs.AnswerLaws.{answer-says, says-header, long-header, long-word-line}
+use Rattle.lines.proofs.AnswerLaws.{header-long, header-answer-long, word-answer-long}
 use Rattle.stream.specs.Awaited.{lineSays, phaseAfter, lastSays}
 use Rattle.stream.specs.Memory.{kept}
 use Rattle.stream.specs.declared.phase.Phase.{Phase}
 use Rattle.stream.specs.declared.phase.Phase.the-variants.{First, Words, Ended}
 
--- a missing header is as a blank one: both are wrong
-pub missing-header : headerAnswer [] ≡ headerLine
-unfolding headerOf parts isNumber
-missing-header = answer-says [] (headerOf []) refl ∙ says-header (headerOf []) refl
-
--- what is said alike of all texts of more than 512 bytes is said of a text by its first 513
-by-kept : {A : Type 0} (f : List ℕ → A) (long : A) → ((text : List ℕ) → 512 < length text → f text ≡ long) → (text : List ℕ) → f (kept text) ≡ f text
-by-kept f long alike text =
-    by-cases (decLt 513 (length text)) (λ h. alike (kept text) (omega (arith, length-take 513 text)) ∙ sym (alike text (omega arith)))
+-- what is the same of all texts of more than 512 bytes is said of a text by its first 513
+by-kept : {A : Type 0} (f : List ℕ → A) → ((a b : List ℕ) → 512 < length a → 512 < length b → f a ≡ f b) → (text : List ℕ) → f (kept text) ≡ f text
+by-kept f alike text =
+    by-cases (decLt 513 (length text)) (λ h. alike (kept text) text (omega (arith, length-take 513 text)) (omega arith))
     (λ h. ap f (take-all 513 text (omega arith)))
 
-header-kept : (text : List ℕ) → headerOf (kept text) ≡ headerOf text
-header-kept text = by-kept headerOf wrongHeader header-long text
-
 pub line-kept : (phase : Phase) (text : List ℕ) → lineSays phase (kept text) ≡ lineSays phase text
-line-kept First text = by-kept headerAnswer headerLine long-header text
-line-kept (Words h) text = by-kept (wordAnswer h) lineLine (λ t l. long-word-line t l h) text
+line-kept First text = by-kept headerAnswer header-answer-long text
+line-kept (Words h) text = by-kept (wordAnswer h) (word-answer-long h) text
 line-kept Ended text = refl
 
 pub phase-kept : (phase : Phase) (text : List ℕ) → phaseAfter phase (kept text) ≡ phaseAfter phase text
-phase-kept First text = rw (header-kept text)
+phase-kept First text = rw (by-kept headerOf header-long text)
 phase-kept (Words h) text = refl
 phase-kept Ended text = refl
 

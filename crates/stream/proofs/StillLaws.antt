@@ -11,12 +11,13 @@ use lib.Dec.{eqb}
 use Rattle.lines.specs.Header.{headerOf}
 use Rattle.lines.specs.Answer.{headerAnswer, goesOn, wordAnswer}
 use Rattle.lines.specs.declared.header.Header.{Header}
+use Rattle.lines.proofs.AnswerLaws.{missing-header}
 use Rattle.stream.specs.Program.{newline, withByte, linesOf, wordAnswers, wordsIf, answersTo, programOutput}
 use Rattle.stream.specs.Awaited.{lineSays, wordsOrEnd, phaseAfter, lastSays}
 use Rattle.stream.specs.Memory.{Memory, start, kept, saysIf, byteSays, afterIf, afterByte, blockSays, afterBlock, endSays}
 use Rattle.stream.specs.declared.phase.Phase.{Phase}
 use Rattle.stream.specs.declared.phase.Phase.the-variants.{First, Words, Ended}
-use Rattle.stream.proofs.KeptLaws.{missing-header, line-kept, phase-kept, last-kept, kept-again}
+use Rattle.stream.proofs.KeptLaws.{line-kept, phase-kept, last-kept, kept-again}
 
 abbrev linesSay : Phase → List (List ℕ) → List ℕ
 linesSay First lines = answersTo lines

@@ -1,6 +1,5 @@
-// One call of decode, and whether all of its answer and of its buffer is that of the exhaustive search.
-ghost use Prim.Native.Nat.{_≤_};
-use crate::coded::comes_back;
+// One call of decode, and whether all of its answer and of its buffer is that of the exhaustive search; and a call of read on the buffer.
+ghost use Prim.Native.Nat.{_≤_, _<_};
 use crate::exhaustive::Found;
 use crate::exhaustive::search;
 use crate::received::values;
@@ -11,19 +10,20 @@ pub struct Outcome {
     pub same: bool,
     pub refused: bool,
     pub tied: bool,
-    // read and encode answer as they have to on the word
-    pub back: bool,
+    // read brings back the message of a word that is zero in the unsent places, and refuses any other
+    pub read: bool,
     // the word in the buffer
     pub word: u64,
 }
 
-// The answer as it has to be: "A refusal returns its number with all other fields zero".
+// The answer as it has to be, no bit otherwise: "A refusal returns its number with all other fields zero".
 fn same_answer(answer: decode::Decoding, found: Found) -> bool {
     let refusal = if found.exists { 0 } else { 6 };
-    answer.refusal == refusal
-        && answer.distance as u64 == found.distance
-        && answer.flips as u64 == found.flips
-        && answer.candidates as u64 == found.count
+    let refusals = answer.refusal as u64 ^ refusal;
+    let distances = answer.distance as u64 ^ found.distance;
+    let flips = answer.flips as u64 ^ found.flips;
+    let counts = answer.candidates as u64 ^ found.count;
+    refusals | distances | flips | counts == 0
 }
 
 // The first two bytes of a buffer.
@@ -32,17 +32,40 @@ fn word_in(buf: &[u8; 5]) -> u64 {
 }
 
 // A buffer that had `fill` in each byte, with a word written into two of them or with nothing written.
-pub fn same_buffer(buf: &[u8; 5], fill: u8, written: bool, word: u64) -> bool {
-    let first = if written {
-        word
-    } else {
-        wide(fill) + 256 * wide(fill)
-    };
-    word_in(buf) == first && buf[2] == fill && buf[3] == fill && buf[4] == fill
+fn same_buffer(buf: &[u8; 5], fill: u8, written: bool, word: u64) -> bool {
+    let left = wide(fill) + 256 * wide(fill);
+    let first = if written { word } else { left };
+    let rest = (buf[2] ^ fill) | (buf[3] ^ fill) | (buf[4] ^ fill);
+    (word_in(buf) ^ first) | wide(rest) == 0
 }
 
 fn is_same(answer: decode::Decoding, found: Found, buf: &[u8; 5], fill: u8) -> bool {
     same_answer(answer, found) && same_buffer(buf, fill, found.exists, found.word)
+}
+
+// The number of parity bits.
+fn parity_of(t: u16) -> u16
+    ensures { λ r. ⌜ r < 64 ⌝ }
+{
+    match t {
+        1 => 4,
+        2 => 8,
+        _ => 10,
+    }
+}
+
+// Whether read brings back the message of a word in the buffer, where one was written; it refuses a word with a one in an unsent place.
+fn reads(t: u16, s: u16, word: u64, buf: &[u8; 5], written: bool) -> bool
+    requires { ⌜ s ≤ 15 ⌝ }
+{
+    if !written {
+        return true;
+    }
+    let reading = codec::read(4, t, s, buf);
+    let sent = word >> (15 - s) == 0;
+    let refusal = if sent { 0 } else { 8 };
+    let message = if sent { word >> parity_of(t) } else { 0 };
+    (reading.refusal as u64 ^ refusal) | (reading.message ^ message) == 0
 }
 
 pub fn compare(list: &[u64], word: &[u8; 15], t: u16, s: u16, order: u16, fill: u8) -> Outcome
@@ -58,7 +81,7 @@ pub fn compare(list: &[u64], word: &[u8; 15], t: u16, s: u16, order: u16, fill: 
         same: is_same(answer, found, &buf, fill),
         refused,
         tied: 1 < found.nearest,
-        back: refused || comes_back(t, s, word, &buf, fill),
+        read: reads(t, s, word, &buf, !refused),
         word,
     }
 }

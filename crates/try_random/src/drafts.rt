@@ -53,6 +53,7 @@ fn larger(a: u64, b: u64) -> u64 {
     if a < b { b } else { a }
 }
 
+// The byte at position p, with a size drawn from x.
 fn draft_byte(draft: Draft, cap: u64, p: usize, x: u64) -> u8
     requires { ⌜ p < 15 ⌝ }
 {
@@ -67,7 +68,7 @@ fn draft_byte(draft: Draft, cap: u64, p: usize, x: u64) -> u8
     }
 }
 
-// The word with sizes of up to `cap` in its wrong places.
+// The word with sizes of up to `cap` in its wrong places; what is left of `cap` by 129, so that it is a size.
 fn draft_word(draft: Draft, cap: u64) -> [u8; 15] {
     let mut word = [127u8; 15];
     let mut x = draft.seed;
@@ -128,7 +129,7 @@ fn drafted(list: &[u64], t: u16, s: u16, seed: u64) -> Draft
         close: rival,
         sent: 15 - s as usize,
         scale: scale_of(drawn(next(c))),
-        seed: c,
+        seed: next(next(c)),
     }
 }
 

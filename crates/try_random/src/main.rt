@@ -1,4 +1,4 @@
-// Runs the three calls on words of 15 bits and compares them with an exhaustive search that shares no code with them.
+// Runs decode on words of 15 bits, and read on its answers, and compares them with an exhaustive search that shares no code with them.
 //
 // Random words of every code, shortening and order, and words sent with the wrong bits' sum at the edge of demand 3: one below the bound, and
 // at it. The file `stdout` has the counts.
@@ -9,9 +9,11 @@ use crate::drafts::chosen;
 use crate::drafts::sent_word;
 use crate::random::drawn;
 use crate::random::next;
+use crate::random::other;
 use crate::roots::list_codewords;
 use crate::sent::margin_of;
 use crate::tally::CODEWORDS;
+use crate::tally::both;
 use crate::tally::count_outcome;
 use crate::tally::count_sent;
 use crate::tally::put;
@@ -23,8 +25,7 @@ mod random; // numbers without a pattern
 mod roots; // the codewords by their roots
 mod received; // received words
 mod exhaustive; // what decode has to answer
-mod compare; // a call of decode compared
-mod coded; // encode and read of what was decoded
+mod compare; // a call compared with it
 mod words; // random words
 mod sent; // what demand 3 supposes
 mod drafts; // words at its edge
@@ -56,17 +57,17 @@ fn word_of(list: &[u64], t: u16, s: u16, kind: u64, seed: u64) -> Sent
 fn word_case(run: Run, list: &[u64], t: u16, s: u16, order: u16, kind: u64) -> Run
     requires { ⌜ (t ≤ 3) × (s ≤ 15) ⌝ }
 {
-    let seed = next(run.seed);
+    let seed = other(run.seed);
     let sent = word_of(list, t, s, kind, seed);
     let word = sent.word;
     let outcome = compare(list, &word, t, s, order, (seed % 256) as u8);
     let margin = margin_of(&word, sent.codeword, t, s, order);
-    let returned = !outcome.refused && outcome.word == sent.codeword;
+    let returned = both(!outcome.refused, outcome.word == sent.codeword);
     let tally = run.tally;
     let counted = count_outcome(tally, outcome, outcome.word >> (15 - s) != 0);
     Run {
         tally: count_sent(counted, margin, 0 < s, returned),
-        seed: next(seed),
+        seed,
     }
 }
 
@@ -91,7 +92,7 @@ fn each_order(run: Run, list: &[u64], t: u16, s: u16) -> Run
     each_word(two, list, t, s, 3)
 }
 
-// Every shortening of a code.
+// Every shortening of a code, which has k message bits.
 fn each_short(list: &[u64], t: u16, k: u16) -> [u64; 13]
     requires { ⌜ (t ≤ 3) × (k ≤ 15) ⌝ }
 {

@@ -7,6 +7,11 @@ pub fn next(x: u64) -> u64 {
     b ^ (b << 17)
 }
 
+// A state of another run of numbers, so that no two words are made of the same.
+pub fn other(x: u64) -> u64 {
+    next(x ^ 0x9e3779b97f4a7c15)
+}
+
 // What is drawn from a state: its lowest bits are left out.
 pub fn drawn(x: u64) -> u64 {
     x >> 11

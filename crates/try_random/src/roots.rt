@@ -10,7 +10,7 @@ fn times_a(x: u64) -> u64 {
 }
 
 // a^0, a^1, .., a^14.
-pub fn powers() -> [u64; 15] {
+fn powers() -> [u64; 15] {
     let mut powers = [1u64; 15];
     let mut x = 1;
     let mut e = 0;

@@ -1,5 +1,4 @@
-// Random received words of several kinds, and words that were sent with wrong bits.
-ghost use Prim.Native.Nat.{_<_, _≤_};
+// Random received words of several kinds.
 use crate::random::drawn;
 use crate::random::next;
 use crate::received::byte_with;

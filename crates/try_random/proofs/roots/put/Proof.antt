@@ -1,5 +1,4 @@
 -- `try_random::roots::put` gives a place of the list, or its end: a store keeps the length. Assumes nothing.
-use native.Mathlib.Omega.{arith}
 use borrow.Author.Needs.{needs}
 use lib.ListN.{length-set}
 use Rattle.try_random.proofs.roots.put.Statement.{statement}
