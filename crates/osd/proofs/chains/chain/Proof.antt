@@ -1,8 +1,8 @@
 -- `chain` meets its contract. The loop's invariant: the ranks below j are in chains. Assumes nothing.
-use mathlib.Core.Path.{_≡_, refl, _∙_}
+use mathlib.Core.Path.{_≡_, refl}
 use Prim.Native.Nat.{_-_, _≤_}
 use native.Mathlib.Omega.{arith}
-use lib.ListN.{length, getD, set, length-set, getD-replicate}
+use lib.ListN.{length, length-set, getD-replicate}
 use borrow.Author.Needs.{needs}
 use Rattle.osd.specs.Inner.Chains.{Chained}
 use Rattle.osd.proofs.ChainLaws.{chained-start, chained-turn}
@@ -49,7 +49,7 @@ loop-again : tie.Need-loop-again Inv-loop μ-loop
 loop-again c =
     let l = c .before .before .before .loop in (
       omega arith,
-      length-set (set (l .chains) (l .j) (getD (l .chains) (c .slot .result) 0)) (c .slot .result) _ ∙ length-set (l .chains) (l .j) _ ∙ l .inv .1,
+      simp length-set (l .inv .1),
       chained-turn _ (l .chains) (l .j) (c .slot .result) (l .inv .2) (c .slot .ensures .0) (l .inv .1) (omega arith),
     )
 
