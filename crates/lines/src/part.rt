@@ -10,7 +10,7 @@ ghost use Rattle.lines.specs.Inner.Scan.{spoiled as Scan·spoiled, withD
 pub struct Part {
     pub minus: bool,
     // how many digits were seen; 4 where the part can be no number any more
-    pub digits: u8,
+    pub digits: usize,
     pub number: u16,
 }
 
