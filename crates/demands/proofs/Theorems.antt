@@ -25,6 +25,8 @@ use Rattle.decode.proofs.DecodeOneAnswer as decode
 use Rattle.decode.proofs.decode.Statement as decode-stated
 use Rattle.decode.proofs.decode.Met as decode-met
 use Rattle.export.proofs.ToldOneAnswer as told
+use Rattle.stream.specs.Claims.{BlocksDoNotMatter, AnsweredAtOnce, NothingAfterTheEnd}
+use Rattle.stream.proofs.ClaimsShown as stream-shown
 use Rattle.demands.specs.Demands.{ContractsMeetDemands, OursMeetDemands, DemandsAreContracts, NothingElseMeetsThem, SecondGivesThird, EqualityIsNotPromised}
 use Rattle.demands.specs.Ours.{ours}
 use Rattle.demands.specs.Rejected.{WrongVersionsAreRejected}
@@ -181,3 +183,13 @@ read-brings-back = trip.encode-then-read
 
 pub encode-writes-again : EncodeWritesAgain
 encode-writes-again = trip.read-then-encode
+
+-- the program
+pub blocks-do-not-matter : BlocksDoNotMatter
+blocks-do-not-matter = stream-shown.blocks-do-not-matter
+
+pub answered-at-once : AnsweredAtOnce
+answered-at-once = stream-shown.answered-at-once
+
+pub nothing-after-the-end : NothingAfterTheEnd
+nothing-after-the-end = stream-shown.nothing-after-the-end

@@ -1,3 +1,4 @@
+pub mod ClearLaws
 pub mod KeptLaws
 pub mod StillLaws
 pub mod BlockLaws

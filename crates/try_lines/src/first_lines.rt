@@ -1,4 +1,5 @@
 // First lines of the input: headers good and bad.
+use crate::text::end_of;
 use crate::text::put;
 use crate::text::put_answer;
 use crate::text::put_quoted;
@@ -31,87 +32,42 @@ fn header_case(text: &[u8]) {
     answer_case(text);
 }
 
+fn each_header(cases: &[u8]) {
+    let mut at = 0;
+    while at <= cases.len() {
+        let end = end_of(cases, at);
+        header_case(&cases[at..end]);
+        at = end + 1;
+    }
+}
+
 fn taken() {
     put_text(b"Headers that are taken:\n");
-    header_case(b"4 1 0 1");
-    header_case(b"4 1 0 0");
-    header_case(b"4 1 0 3");
-    header_case(b"5 2 20 2");
-    header_case(b"6 3 44 3");
-    header_case(b"4 1 10");
-    header_case(b"4 1 0");
-    header_case(b"04 1 0 1");
-    header_case(b"004 001 000 001");
-    header_case(b"4 1 00");
+    each_header(
+        b"4 1 0 1|4 1 0 0|4 1 0 3|5 2 20 2|6 3 44 3|4 1 10|4 1 0|04 1 0 1|004 001 000 001|4 1 00",
+    );
 }
 
-fn refused_1() {
+fn refused() {
     put_text(b"Headers that are refused:\n");
-    header_case(b"3 1 0 1");
-    header_case(b"7 1 0 1");
-    header_case(b"4 0 0 1");
-    header_case(b"4 4 0 1");
-    header_case(b"260 1 0 1");
-    header_case(b"4 257 0 1");
-    header_case(b"0 0 0");
-    header_case(b"999 999 999 999");
-    header_case(b"4 1 11 1");
-    header_case(b"4 1 267 1");
+    each_header(
+        b"3 1 0 1|7 1 0 1|4 0 0 1|4 4 0 1|260 1 0 1|4 257 0 1|0 0 0|999 999 999 999|4 1 11 1|4 1 267 1|4 3 5|6 1 57 0",
+    );
+    each_header(b"4 1 0 4|4 1 0 259|3 1 99 9|4 1 11 4");
 }
 
-fn refused_2() {
-    header_case(b"4 3 5");
-    header_case(b"6 1 57 0");
-    header_case(b"4 1 0 4");
-    header_case(b"4 1 0 259");
-    header_case(b"3 1 99 9");
-    header_case(b"4 1 11 4");
-}
-
-fn wrong_1() {
+fn wrong() {
     put_text(b"Wrong headers:\n");
-    header_case(b"");
-    header_case(b"4");
-    header_case(b"4 1");
-    header_case(b"4 1 0 1 1");
-    header_case(b"4 1 0 1 ");
-    header_case(b" 4 1 0 1");
-    header_case(b"4  1 0 1");
-    header_case(b"4 1 0  1");
-    header_case(b"4 1 0 ");
-    header_case(b" ");
-}
-
-fn wrong_2() {
-    header_case(b"4 1 0 0001");
-    header_case(b"0004 1 0");
-    header_case(b"4 1 0 -1");
-    header_case(b"-4 1 0");
-    header_case(b"4 1 -0");
-    header_case(b"+4 1 0");
-    header_case(b"4,1,0");
-    header_case(b"4 1 0x1");
-    header_case(b"four");
-    header_case(b"4 1 0 1\r");
-}
-
-fn wrong_3() {
-    header_case(b"\t4 1 0 1");
-    header_case(b"4\t1\t0");
-    header_case(b"4 1 0\0");
-    header_case(b"\0");
-    header_case(b"4 1 0 \xb2");
-    header_case(b"4 1 \xff");
-    header_case(b"4 1 0/");
-    header_case(b"4 1 0:");
-    header_case(b"4 1 0 1-");
+    each_header(
+        b"|4|4 1|4 1 0 1 1|4 1 0 1 | 4 1 0 1|4  1 0 1|4 1 0  1|4 1 0 | |4 1 0 0001|0004 1 0|4 1 0 -1|-4 1 0|4 1 -0",
+    );
+    each_header(
+        b"+4 1 0|4,1,0|4 1 0x1|four|4 1 0 1\r|\t4 1 0 1|4\t1\t0|4 1 0\0|\0|4 1 0 \xb2|4 1 \xff|4 1 0/|4 1 0:|4 1 0 1-",
+    );
 }
 
 pub fn run() {
     taken();
-    refused_1();
-    refused_2();
-    wrong_1();
-    wrong_2();
-    wrong_3();
+    refused();
+    wrong();
 }

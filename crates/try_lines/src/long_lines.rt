@@ -4,6 +4,7 @@ ghost use lib.ListN.{length};
 use crate::first_lines;
 use crate::text::put;
 use crate::text::put_text;
+use crate::text::within;
 use crate::word_lines;
 
 // A byte more, if there is room.
@@ -17,7 +18,7 @@ fn with_byte(text: &mut [u8], at: usize, b: u8) -> usize
     text.len()
 }
 
-fn with_piece(text: &mut [u8], at: usize, piece: &[u8]) -> usize
+pub fn with_piece(text: &mut [u8], at: usize, piece: &[u8]) -> usize
     requires { ⌜ at ≤ length (now text) ⌝ }
     ensures { λ r. ⌜ r ≤ length (now (text .entry)) ⌝ }
 {
@@ -70,9 +71,10 @@ fn with_values(text: &mut [u8], zero: &[u8], one: &[u8], ones: u64, count: usize
 fn built_case(header: &[u8], zero: &[u8], one: &[u8], ones: u64, count: usize)
     requires { ⌜ count ≤ 64 ⌝ }
 {
-    let mut text = [0u8; 512];
+    let mut text = io::buffer();
     let n = with_values(&mut text, zero, one, ones, count);
-    word_lines::word_under(header, &text[..n]);
+    let end = within(n, &text);
+    word_lines::word_under(header, &text[..end]);
 }
 
 // The byte at a place of a line of so many bytes whose values are ones, the first of them eleven where that makes the bytes even.
@@ -85,24 +87,33 @@ fn one_or_space(bytes: usize, i: usize) -> u8
     if (bytes - 1 - i) % 2 == 0 { 49 } else { 32 }
 }
 
-fn fill_with_ones(text: &mut [u8]) {
+pub fn with_ones(text: &mut [u8], at: usize, bytes: usize) -> usize
+    requires { ⌜ at ≤ length (now text) ⌝ }
+    ensures { λ r. ⌜ r ≤ length (now (text .entry)) ⌝ }
+{
+    let mut end = at;
     let mut i = 0;
-    while i < text.len() {
-        text[i] = one_or_space(text.len(), i);
+    while i < bytes {
+        end = with_byte(text, end, one_or_space(bytes, i));
         i += 1;
     }
+    end
 }
 
 // As the first line and as a word line under the header of the paper's example.
-fn ones_case(text: &mut [u8]) {
-    fill_with_ones(text);
-    put(b"header of ", text.len() as u64);
+fn ones_case(bytes: usize)
+    requires { ⌜ bytes ≤ 513 ⌝ }
+{
+    let mut space = io::buffer();
+    let n = with_ones(&mut space, 0, bytes);
+    let end = within(n, &space);
+    put(b"header of ", bytes as u64);
     put_text(b" bytes");
-    first_lines::answer_case(text);
-    put(b"word of ", text.len() as u64);
-    put(b" bytes, ", ((text.len() + 1) / 2) as u64);
+    first_lines::answer_case(&space[..end]);
+    put(b"word of ", bytes as u64);
+    put(b" bytes, ", ((bytes + 1) / 2) as u64);
     put_text(b" values");
-    word_lines::answer_case(b"4 1 0 1", text);
+    word_lines::answer_case(b"4 1 0 1", &space[..end]);
 }
 
 fn built() {
@@ -121,18 +132,11 @@ fn built() {
     built_case(b"6 2 1 0", b"1", b"-1", 1, 62);
 }
 
-fn line_of(bytes: usize)
-    requires { ⌜ bytes ≤ 513 ⌝ }
-{
-    let mut space = [0u8; 513];
-    ones_case(&mut space[..bytes]);
-}
-
 fn about_512() {
     put_text(b"Long lines:\n");
-    line_of(511);
-    line_of(512);
-    line_of(513);
+    ones_case(511);
+    ones_case(512);
+    ones_case(513);
 }
 
 pub fn run() {

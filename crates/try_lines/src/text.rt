@@ -1,4 +1,7 @@
 // What the lines of all cases are made of: words, numbers, and texts with any bytes.
+ghost use Prim.Native.Nat.{_≤_};
+ghost use lib.ListN.{length};
+ghost use Rattle.io.specs.Counts.{Counts};
 use libc::STDOUT_FILENO;
 
 pub fn put_text(text: &[u8]) {
@@ -9,6 +12,28 @@ pub fn put_text(text: &[u8]) {
 pub fn put(text: &[u8], n: u64) {
     put_text(text);
     io::print_decimal(STDOUT_FILENO, n);
+}
+
+// Where the case that starts at a place ends: at the next bar, or at the end of all.
+pub fn end_of(cases: &[u8], from: usize) -> usize
+    requires { ⌜ from ≤ length (now cases) ⌝ }
+    ensures { λ r. ⌜ (from ≤ r) × (r ≤ length (now (cases .entry))) ⌝ }
+{
+    let mut end = from;
+    while end < cases.len() {
+        if cases[end] == 124 {
+            return end;
+        }
+        end += 1;
+    }
+    end
+}
+
+// A number of a text's bytes, which is lent up to there.
+pub fn within(n: usize, text: &[u8]) -> usize
+    ensures { λ r. ⌜ Counts r (now (text .entry)) ⌝ }
+{
+    if n < text.len() { n } else { text.len() }
 }
 
 // A byte as it is, or as a backslash and two digits.

@@ -1,4 +1,5 @@
 // Word lines good and bad.
+use crate::text::end_of;
 use crate::text::put_answer;
 use crate::text::put_quoted;
 use crate::text::put_text;
@@ -17,111 +18,88 @@ pub fn word_under(header: &[u8], text: &[u8]) {
     answer_case(header, text);
 }
 
-// A word line under the header of the paper's example.
-fn word_case(text: &[u8]) {
-    word_under(b"4 1 0 1", text);
+fn each_word(header: &[u8], cases: &[u8]) {
+    let mut at = 0;
+    while at <= cases.len() {
+        let end = end_of(cases, at);
+        word_under(header, &cases[at..end]);
+        at = end + 1;
+    }
 }
 
-fn decoded_1() {
+fn decoded() {
     put_text(b"Word lines that are decoded:\n");
-    word_case(b"10 10 -10 10 10 10 10 10 10 10 10 10 10 5 5");
-    word_case(b"10 10 10 10 10 -10 10 10 10 10 10 10 10 10 10");
-    word_case(b"10 10 10 10 10 10 10 10 10 10 10 10 10 10 10");
-    word_under(b"4 1 0 0", b"10 10 10 10 10 10 10 10 10 10 10 10 10 10 10");
-    word_under(b"4 1 0", b"10 10 10 10 10 10 10 10 10 10 10 10 10 10 10");
-    word_under(b"4 1 0 0", b"10 10 -10 10 10 10 10 10 10 10 10 10 10 5 5");
-    word_under(b"4 1 0 3", b"10 10 -10 10 10 10 10 10 10 10 10 10 10 5 5");
-    word_case(b"0 0 0 0 0 0 0 0 0 0 0 0 0 0 0");
-    word_case(b"-0 -0 -0 -0 -0 -0 -0 -0 -0 -0 -0 -0 -0 -0 -0");
-    word_case(b"-00 000 -000 0 0 0 0 0 0 0 0 0 0 0 0");
-}
-
-fn decoded_2() {
-    word_case(b"-128 127 127 127 127 127 127 127 127 127 127 127 127 127 127");
-    word_case(b"-3 10 10 10 10 10 10 10 10 10 10 10 10 10 10");
-    word_case(b"10 10 10 010 10 10 10 10 10 10 10 10 10 10 10");
-    word_case(b"10 10 10 -010 10 10 10 10 10 10 10 10 10 10 10");
-    word_under(b"4 1 10 1", b"-1 2 -3 4 -5");
-    word_under(b"4 2 3 2", b"1 -2 3 -4 5 -6 7 -8 9 -10 11 -12");
-    word_under(b"4 3 0 1", b"-9 -8 -7 -6 -5 -4 -3 -2 -1 -1 -2 -3 -4 -5 -6");
+    each_word(
+        b"4 1 0 1",
+        b"10 10 -10 10 10 10 10 10 10 10 10 10 10 5 5|10 10 10 10 10 -10 10 10 10 10 10 10 10 10 10",
+    );
+    each_word(b"4 1 0 1", b"10 10 10 10 10 10 10 10 10 10 10 10 10 10 10");
+    each_word(b"4 1 0 0", b"10 10 10 10 10 10 10 10 10 10 10 10 10 10 10");
+    each_word(b"4 1 0", b"10 10 10 10 10 10 10 10 10 10 10 10 10 10 10");
+    each_word(b"4 1 0 0", b"10 10 -10 10 10 10 10 10 10 10 10 10 10 5 5");
+    each_word(b"4 1 0 3", b"10 10 -10 10 10 10 10 10 10 10 10 10 10 5 5");
+    each_word(
+        b"4 1 0 1",
+        b"0 0 0 0 0 0 0 0 0 0 0 0 0 0 0|-0 -0 -0 -0 -0 -0 -0 -0 -0 -0 -0 -0 -0 -0 -0",
+    );
+    each_word(
+        b"4 1 0 1",
+        b"-00 000 -000 0 0 0 0 0 0 0 0 0 0 0 0|-128 127 127 127 127 127 127 127 127 127 127 127 127 127 127",
+    );
+    each_word(
+        b"4 1 0 1",
+        b"-3 10 10 10 10 10 10 10 10 10 10 10 10 10 10|10 10 10 010 10 10 10 10 10 10 10 10 10 10 10",
+    );
+    each_word(
+        b"4 1 0 1",
+        b"10 10 10 -010 10 10 10 10 10 10 10 10 10 10 10",
+    );
+    each_word(b"4 1 10 1", b"-1 2 -3 4 -5");
+    each_word(b"4 2 3 2", b"1 -2 3 -4 5 -6 7 -8 9 -10 11 -12");
+    each_word(b"4 3 0 1", b"-9 -8 -7 -6 -5 -4 -3 -2 -1 -1 -2 -3 -4 -5 -6");
 }
 
 fn refused() {
     put_text(b"Word lines that are refused:\n");
-    word_case(b"10 10");
-    word_case(b"10");
-    word_case(b"-0");
-    word_case(b"10 10 10 10 10 10 10 10 10 10 10 10 10 10");
-    word_case(b"10 10 10 10 10 10 10 10 10 10 10 10 10 10 10 10");
-    word_under(b"4 1 0 0", b"10 10 10 10 10 -10 10 10 10 10 10 10 10 10 10");
-    word_under(
-        b"4 1 0 0",
-        b"-128 127 127 127 127 127 127 127 127 127 127 127 127 127 127",
+    each_word(
+        b"4 1 0 1",
+        b"10 10|10|-0|10 10 10 10 10 10 10 10 10 10 10 10 10 10|10 10 10 10 10 10 10 10 10 10 10 10 10 10 10 10",
     );
-    word_under(b"4 1 1 1", b"10 10 10 10 10 10 10 10 10 10 10 10 10 10 10");
-    word_under(b"5 1 0 1", b"10 10 10 10 10 10 10 10 10 10 10 10 10 10 10");
-    word_under(b"6 1 0 1", b"10 10 10 10 10 10 10 10 10 10 10 10 10 10 10");
+    each_word(
+        b"4 1 0 0",
+        b"10 10 10 10 10 -10 10 10 10 10 10 10 10 10 10|-128 127 127 127 127 127 127 127 127 127 127 127 127 127 127",
+    );
+    each_word(b"4 1 1 1", b"10 10 10 10 10 10 10 10 10 10 10 10 10 10 10");
+    each_word(b"5 1 0 1", b"10 10 10 10 10 10 10 10 10 10 10 10 10 10 10");
+    each_word(b"6 1 0 1", b"10 10 10 10 10 10 10 10 10 10 10 10 10 10 10");
 }
 
-fn wrong_1() {
+fn wrong() {
     put_text(b"Wrong word lines:\n");
-    word_case(b"");
-    word_case(b" ");
-    word_case(b"128");
-    word_case(b"10 10 10 10 10 10 10 10 10 10 10 10 10 10 128");
-    word_case(b"-129");
-    word_case(b"-129 10 10 10 10 10 10 10 10 10 10 10 10 10 10");
-    word_case(b"999");
-    word_case(b"-999");
-    word_case(b"1000");
-    word_case(b"10 10 10 10 10 10 10 0010 10 10 10 10 10 10 10");
-}
-
-fn wrong_2() {
-    word_case(b"-0001");
-    word_case(b"0128");
-    word_case(b"+1");
-    word_case(b"--1");
-    word_case(b"1-");
-    word_case(b"-");
-    word_case(b"1 -");
-    word_case(b"- 1");
-    word_case(b"1 - 2");
-    word_case(b"1-2");
-}
-
-fn wrong_3() {
-    word_case(b"10 10 10 10 10 10 10 10 10 10 10 10 10 10 10 ");
-    word_case(b" 10 10 10 10 10 10 10 10 10 10 10 10 10 10 10");
-    word_case(b"10  10 10 10 10 10 10 10 10 10 10 10 10 10 10");
-    word_case(b"10 10 10 10 10 10 10 10 10 10 10 10 10 10 10\r");
-    word_case(b"\r");
-    word_case(b"1\t2");
-    word_case(b"1\0");
-    word_case(b"\0");
-    word_case(b"1 \x80");
-    word_case(b"\xb1");
-}
-
-fn wrong_4() {
-    word_case(b"\xff");
-    word_case(b"1.5");
-    word_case(b"1,2");
-    word_case(b"0x1");
-    word_case(b"1e1");
-    word_case(b"one");
-    word_case(b"1 2 /");
-    word_case(b"1 2 :");
-    word_case(b"/");
-    word_case(b":");
+    each_word(
+        b"4 1 0 1",
+        b"| |128|10 10 10 10 10 10 10 10 10 10 10 10 10 10 128|-129|-129 10 10 10 10 10 10 10 10 10 10 10 10 10 10",
+    );
+    each_word(
+        b"4 1 0 1",
+        b"999|-999|1000|10 10 10 10 10 10 10 0010 10 10 10 10 10 10 10|-0001|0128|+1|--1|1-|-|1 -|- 1|1 - 2|1-2",
+    );
+    each_word(
+        b"4 1 0 1",
+        b"10 10 10 10 10 10 10 10 10 10 10 10 10 10 10 | 10 10 10 10 10 10 10 10 10 10 10 10 10 10 10",
+    );
+    each_word(
+        b"4 1 0 1",
+        b"10  10 10 10 10 10 10 10 10 10 10 10 10 10 10|10 10 10 10 10 10 10 10 10 10 10 10 10 10 10\r|\r|1\t2|1\0|\0",
+    );
+    each_word(
+        b"4 1 0 1",
+        b"1 \x80|\xb1|\xff|1.5|1,2|0x1|1e1|one|1 2 /|1 2 :|/|:",
+    );
 }
 
 pub fn run() {
-    decoded_1();
-    decoded_2();
+    decoded();
     refused();
-    wrong_1();
-    wrong_2();
-    wrong_3();
-    wrong_4();
+    wrong();
 }

@@ -2,7 +2,7 @@
 use mathlib.Core.Path.{sym}
 use native.Mathlib.Omega.{arith}
 use lib.Seq.{length-take-le}
-use Rattle.lines.proofs.AnswerLaws.{word-answer-short}
+use Rattle.stream.proofs.PutLaws.{put-within}
 use borrow.Author.Needs.{needs}
 use Rattle.try_lines.proofs.word_lines.answer_case.Statement.{statement}
 use Rattle.try_lines.proofs.word_lines.answer_case.Tie as tie
@@ -19,12 +19,12 @@ answer-word-requires c κs = search needs
 array-share-prefix-out : tie.Need-array-share-prefix-out
 array-share-prefix-out c =
     let a = c .before .answer-word in
-    omega (arith, a .ensures .size, a .kept .1 .1 .0, word-answer-short (c .before .before .before .read-header .result) (c .before .before .before .before .before .before .args .text .now))
+    omega (arith, a .kept .1 .1 .0, put-within _ _ _ _ (a .ensures))
 
 slice-aggregate-put-answer : tie.Need-slice-aggregate-put-answer
 slice-aggregate-put-answer c =
     let a = c .before .before .answer-word in
-    sym (length-take-le (a .result) (a .last .1 .1 .0) (omega (arith, a .ensures .size, a .kept .1 .1 .0, word-answer-short (c .before .before .before .before .read-header .result) (c .before .before .before .before .before .before .before .args .text .now))))
+    sym (length-take-le (a .result) (a .last .1 .1 .0) (omega (arith, a .kept .1 .1 .0, put-within _ _ _ _ (a .ensures))))
 
 put-answer-requires : tie.Need-put-answer-requires
 put-answer-requires c κs = search needs
