@@ -11,13 +11,13 @@ use Prim.Native.Nat.{ℕ, suc, _+_, _-_, _*_, _^_, _≤_, _<_}
 use native.Mathlib.Nat.{pow-suc, pow-le-pow-right, lt-of-lt-of-le, add-zero, zero-add}
 use native.Mathlib.Numerals.{add-one, one-add}
 use native.Mathlib.Omega.{arith}
-use borrow.Author.Tests.{ltb-true, ltb-false, eqb-true, lt-ltb, le-leb, lt-leb, ne-eqb}
+use borrow.Author.Tests.{ltb-true, ltb-false, eqb-true, lt-ltb, le-ltb, le-leb, lt-leb, ne-eqb}
 use lib.Dec.{T, leb, ltb, eqb, leb→le, leb·suc-suc}
 use lib.ListN.{length}
 use Rattle.field.proofs.TestLaws.{and-left, and-right, is-true, is-false, or-right}
 use Rattle.lines.specs.Line.{isDigit, allDigits, isNumber, numberFrom, numberOf}
 use Rattle.lines.specs.WordLine.{negative, afterMinus, isValue, signed, valueOf}
-use Rattle.lines.specs.Inner.Scan.{fresh, spoiled, withDigit, withMinus, pushed, scanned, holdsNumber}
+use Rattle.lines.specs.Inner.Scan.{fresh, spoiled, withDigit, withMinus, pushed, scanned, endedBy, holdsNumber}
 use Rattle.lines.specs.Inner.Reads.{holdsValue}
 use Rattle.lines.specs.declared.part.Part.{Part}
 
@@ -37,8 +37,8 @@ digit-high b e = omega (arith, leb→le b 57 (and-right (leb 48 b) (leb b 57) (i
 abbrev pub Small : Part → Type 0
 Small p = p .number < 10 ^ p .digits
 
-pub small-below : (p : Part) → Small p → p .digits < 3 → p .number < 100
-small-below p h l = lt-of-lt-of-le h (pow-le-pow-right {n = 10} (omega arith) {i = p .digits} {j = 2} (omega arith))
+pub small-within : (number digits most : ℕ) → number < 10 ^ digits → digits ≤ most → number < 10 ^ most
+small-within number digits most h l = lt-of-lt-of-le h (pow-le-pow-right {n = 10} (omega arith) {i = digits} {j = most} l)
 
 small-digit : (p : Part) (d : ℕ) → Small p → d ≤ 9 → Small (withDigit p d)
 small-digit p d h l = go (ltb (p .digits) 3)
@@ -72,6 +72,45 @@ spoiled-stays : (w : List ℕ) → scanned spoiled w ≡ spoiled
 unfolding scanned
 spoiled-stays [] = refl
 spoiled-stays (b ∷ w) = rw (spoiled-next b) (spoiled-stays w)
+
+-- a byte that spoils a part, whatever follows
+pub shut-on : (p : Part) (b : ℕ) (w : List ℕ) → pushed p b ≡ spoiled → scanned p (b ∷ w) ≡ endedBy p (b ∷ w)
+unfolding scanned
+shut-on p b w e = rw e (spoiled-stays w)
+
+pub shut : (p : Part) (w : List ℕ) → ((b : ℕ) → pushed p b ≡ spoiled) → scanned p w ≡ endedBy p w
+unfolding scanned
+shut p [] f = refl
+shut p (b ∷ w) f = shut-on p b w (f b)
+
+-- three digits take no byte more
+pub full-next : (p : Part) (b : ℕ) → 3 ≤ p .digits → pushed p b ≡ spoiled
+unfolding pushed
+full-next p b h = rw (le-ltb (p .digits) 3 h, lt-ltb 0 (p .digits) (omega arith)) (go (isDigit b) (eqb b 45) (p .minus))
+  where
+    go : (t u v : Bool) → cond t spoiled (cond u (cond v spoiled spoiled) spoiled) ≡ spoiled
+    go true u v = refl
+    go false true true = refl
+    go false true false = refl
+    go false false v = refl
+
+-- a byte that is no digit spoils a part that can take no minus
+pub other-next : (p : Part) (b : ℕ) → isDigit b ≡ false → (b ≡ 45 → withMinus p ≡ spoiled) → pushed p b ≡ spoiled
+unfolding pushed
+other-next p b e f = rw e (go (eqb b 45) refl)
+  where
+    go : (u : Bool) → eqb b 45 ≡ u → cond u (withMinus p) spoiled ≡ spoiled
+    go true q = f (eqb-true b 45 q)
+    go false q = refl
+
+-- a digit more, where fewer than three were seen; then no minus can follow
+pub digit-next : (p : Part) (b : ℕ) → isDigit b ≡ true → p .digits < 3 → pushed p b ≡ part (p .minus) (p .digits + 1) (p .number * 10 + (b - 48))
+unfolding pushed
+digit-next p b e h = rw (e, lt-ltb (p .digits) 3 h)
+
+pub no-minus-next : (minus : Bool) (d n : ℕ) → withMinus (part minus (d + 1) n) ≡ spoiled
+no-minus-next true d n = refl
+no-minus-next false d n = rw (lt-ltb 0 (d + 1) (omega arith))
 
 -- a byte after the sign, or after a first digit
 next-digit : (minus : Bool) (d n b : ℕ) → T (minus || ltb 0 d) → d ≤ 3
@@ -128,7 +167,7 @@ told minus w = go (allDigits w) refl (leb (length w) 3) refl
     go true e false f = untold minus w spoiled refl (rw (e, f, and-false (leb 1 (length w))))
     go false e r f = untold minus w spoiled refl (rw (e, and-false (leb 1 (length w) && leb (length w) 3)))
 
-first-minus : (b : ℕ) → b ≡ 45 → pushed fresh b ≡ part true 0 0
+pub first-minus : (b : ℕ) → b ≡ 45 → pushed fresh b ≡ part true 0 0
 unfolding pushed
 first-minus b e = rw e
 

@@ -1,54 +1,124 @@
 -- Scanning a part, as the loop takes it: what was scanned so far, and what is left up to the next space.
 --   Scanning     the loop's invariant
---   scan-begin, scan-more, scan-space, scan-end   before the first byte, a byte more, at a space, at the text's end
+--   scan-minus, scan-plain   at the first byte, a minus or not
+--   scan-digit   a digit more
+--   close-end, close-full, close-other   at the text's end, after three digits, at a byte that is no digit
+--   space-on, space-here, space-end      looking for the next space: a byte more, at a space, at the text's end
 -- Assumes nothing.
-use mathlib.Core.Path.{_≡_, refl, ap₂}
+use mathlib.Core.Path.{_≡_, refl, sym, ap, ap₂, subst, _∙_}
+use mathlib.Core.Bool.{Bool, true, false, true≢false}
 use mathlib.Core.List.{List, [], _∷_}
-use Prim.Native.Nat.{ℕ, _+_, _≤_, _<_}
+use Prim.Native.Nat.{ℕ, _+_, _-_, _*_, _≤_, _<_}
+use native.Mathlib.Nat.{add-zero}
 use native.Mathlib.Numerals.{add-one}
 use native.Mathlib.Omega.{arith}
-use borrow.Author.Tests.{eq-eqb, ne-eqb}
+use borrow.Author.Tests.{eq-eqb, ne-eqb, eqb-true, eqb-false, lt-ltb}
+use lib.Dec.{T, ltb, eqb, ltb→lt, eqb→eq}
 use lib.ListN.{length, getD, drop, drop-of-length-le}
 use lib.Seq.{drop-cons}
-use Rattle.lines.specs.Inner.Scan.{fresh, pushed, scanned, firstPart, foundAt}
+use Rattle.field.proofs.TestLaws.{and-left, and-right}
+use Rattle.lines.specs.Line.{isDigit}
+use Rattle.lines.specs.Inner.Scan.{fresh, spoiled, withMinus, scanned, firstPart, foundAt, endedBy, closedAt, minusAt}
 use Rattle.lines.specs.declared.part.Part.{Part}
 use Rattle.lines.specs.declared.part.Found.{Found}
-use Rattle.lines.proofs.ScanLaws.{Small, small-pushed}
-
-pub record Scanning (text : List ℕ) (from : ℕ) (part : Part) (at : ℕ) : Type 0 where
-  pub within : at ≤ length text
-  pub small : Small part
-  pub left : scanned part (firstPart (drop at text)) ≡ scanned fresh (firstPart (drop from text))
-  pub count : at + length (firstPart (drop at text)) ≡ from + length (firstPart (drop from text))
+use Rattle.lines.proofs.ScanLaws.{Small, small-pushed, shut, shut-on, full-next, other-next, digit-next, no-minus-next, first-minus, digit-low}
 
 abbrev found : Part → ℕ → Found
 found part end = record { part = part; end = end }
 
-pub scan-begin : (text : List ℕ) (from : ℕ) → from ≤ length text → Scanning text from fresh from
-scan-begin text from h = record { within = h; small = omega arith; left = refl; count = refl }
+-- the bytes up to the next space, by the byte at a place
+module _ (text : List ℕ) (at : ℕ) where
+  pub space-on : at < length text → (getD text at 0 ≡ 32 → ⊥) → firstPart (drop at text) ≡ getD text at 0 ∷ firstPart (drop (at + 1) text)
+  unfolding firstPart
+  space-on h n = rw (drop-cons text at 0 h, ne-eqb (getD text at 0) 32 n, add-one at)
+
+  pub space-here : at < length text → getD text at 0 ≡ 32 → firstPart (drop at text) ≡ []
+  unfolding firstPart
+  space-here h e = rw (drop-cons text at 0 h, eq-eqb (getD text at 0) 32 e)
+
+  pub space-end : length text ≤ at → firstPart (drop at text) ≡ []
+  unfolding firstPart
+  space-end h = rw (drop-of-length-le text h)
+
+  pub closed-here : (p : Part) → firstPart (drop at text) ≡ [] → found p at ≡ closedAt text p at
+  unfolding closedAt
+  closed-here p e = ap₂ found (rw e) (rw (e, add-zero at))
+
+  pub closed-on : (p : Part) → at < length text → (getD text at 0 ≡ 32 → ⊥) → found spoiled (at + length (firstPart (drop at text))) ≡ closedAt text p at
+  unfolding closedAt
+  closed-on p h n = ap (λ (q : Part). found q (at + length (firstPart (drop at text)))) (ap (endedBy p) (sym (space-on h n)))
+
+pub record Scanning (text : List ℕ) (from : ℕ) (part : Part) (at : ℕ) : Type 0 where
+  pub within : at ≤ length text
+  pub small : Small part
+  pub sign : at < length text → getD text at 0 ≡ 45 → withMinus part ≡ spoiled
+  pub left : scanned part (firstPart (drop at text)) ≡ scanned fresh (firstPart (drop from text))
+  pub count : at + length (firstPart (drop at text)) ≡ from + length (firstPart (drop from text))
+
+pub scan-plain : (text : List ℕ) (from : ℕ) → from ≤ length text → minusAt text from ≡ false → Scanning text from fresh from
+scan-plain text from h e = record {
+  within = h;
+  small = omega arith;
+  sign = λ l q. absurd (true≢false (sym (simp (lt-ltb from (length text) l, q)) ∙ e));
+  left = refl;
+  count = refl;
+}
+
+minus-byte : (text : List ℕ) (from : ℕ) → minusAt text from ≡ true → getD text from 0 ≡ 45
+minus-byte text from e = eqb→eq (getD text from 0) 45 (and-right (ltb from (length text)) (eqb (getD text from 0) 45) (subst T (sym e) tt))
+
+pub minus-within : (text : List ℕ) (from : ℕ) → minusAt text from ≡ true → from < length text
+minus-within text from e = ltb→lt from (length text) (and-left (ltb from (length text)) (eqb (getD text from 0) 45) (subst T (sym e) tt))
+
+pub scan-minus : (text : List ℕ) (from : ℕ) → minusAt text from ≡ true
+    → Scanning text from (record { minus = true; digits = 0; number = 0 }) (from + 1)
+unfolding scanned
+scan-minus text from t =
+    let h = minus-within text from t in
+    let e = minus-byte text from t in
+    let w = space-on text from h (λ q. omega (arith, q, e)) in
+    record {
+      within = omega arith;
+      small = omega arith;
+      sign = λ l q. refl;
+      left = ap (λ (p : Part). scanned p (firstPart (drop (from + 1) text))) (sym (first-minus (getD text from 0) e)) ∙ ap (scanned fresh) (sym w);
+      count = rw w (omega arith);
+    }
 
 module _ (text : List ℕ) (from : ℕ) (part : Part) (at : ℕ) (s : Scanning text from part at) where
-  at-byte : at < length text → (getD text at 0 ≡ 32 → ⊥) → firstPart (drop at text) ≡ getD text at 0 ∷ firstPart (drop (at + 1) text)
-  unfolding firstPart
-  at-byte h n = rw (drop-cons text at 0 h, ne-eqb (getD text at 0) 32 n, add-one at)
-
-  pub scan-more : at < length text → (getD text at 0 ≡ 32 → ⊥) → Scanning text from (pushed part (getD text at 0)) (at + 1)
+  pub scan-digit : at < length text → isDigit (getD text at 0) ≡ true → part .digits < 3
+      → Scanning text from (record { minus = part .minus; digits = part .digits + 1; number = part .number * 10 + (getD text at 0 - 48) }) (at + 1)
   unfolding scanned
-  scan-more h n = record {
-    within = omega arith;
-    small = small-pushed part (getD text at 0) (s .small);
-    left = rw (at-byte h n) at (s .left);
-    count = omega (arith, rw (at-byte h n) at (s .count));
-  }
+  scan-digit h e l =
+      let n : getD text at 0 ≡ 32 → ⊥ = λ f. omega (arith, f, digit-low (getD text at 0) e) in
+      let q = digit-next part (getD text at 0) e l in
+      record {
+        within = omega arith;
+        small = rw q at (small-pushed part (getD text at 0) (s .small));
+        sign = λ _ _. no-minus-next (part .minus) (part .digits) (part .number * 10 + (getD text at 0 - 48));
+        left = ap (λ (p : Part). scanned p (firstPart (drop (at + 1) text))) (sym q) ∙ ap (scanned part) (sym (space-on text at h n)) ∙ s .left;
+        count = omega (arith, rw (space-on text at h n) at (s .count));
+      }
 
-  ends : firstPart (drop at text) ≡ [] → found part at ≡ foundAt text from
-  unfolding foundAt scanned
-  ends e = ap₂ found (rw e at (s .left)) (omega (arith, rw e at (s .count)))
+  closes : scanned part (firstPart (drop at text)) ≡ endedBy part (firstPart (drop at text)) → closedAt text part at ≡ foundAt text from
+  unfolding foundAt closedAt
+  closes f = ap₂ found (sym f ∙ s .left) (s .count)
 
-  pub scan-space : at < length text → getD text at 0 ≡ 32 → found part at ≡ foundAt text from
-  unfolding firstPart
-  scan-space h e = ends (rw (drop-cons text at 0 h, eq-eqb (getD text at 0) 32 e))
+  none : firstPart (drop at text) ≡ [] → closedAt text part at ≡ foundAt text from
+  unfolding scanned
+  none e = closes (rw e)
 
-  pub scan-end : length text ≤ at → found part at ≡ foundAt text from
-  unfolding firstPart
-  scan-end h = ends (rw (drop-of-length-le text h))
+  pub close-end : length text ≤ at → closedAt text part at ≡ foundAt text from
+  close-end h = none (space-end text at h)
+
+  pub close-full : 3 ≤ part .digits → closedAt text part at ≡ foundAt text from
+  close-full h = closes (shut part (firstPart (drop at text)) (λ b. full-next part b h))
+
+  pub close-other : at < length text → isDigit (getD text at 0) ≡ false → closedAt text part at ≡ foundAt text from
+  close-other h e = go (eqb (getD text at 0) 32) refl
+    where
+      go : (t : Bool) → eqb (getD text at 0) 32 ≡ t → closedAt text part at ≡ foundAt text from
+      go true q = none (space-here text at h (eqb-true (getD text at 0) 32 q))
+      go false q =
+          let w = space-on text at h (eqb-false (getD text at 0) 32 q) in
+          closes (ap (scanned part) w ∙ shut-on part (getD text at 0) (firstPart (drop (at + 1) text)) (other-next part (getD text at 0) e (s .sign h)) ∙ ap (endedBy part) (sym w))

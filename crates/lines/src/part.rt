@@ -1,10 +1,10 @@
 // The part of a line up to the next space, as a number. Numbers of all lines are read here.
 ghost use mathlib.Core.Path.{_≡_};
 ghost use mathlib.Core.Bool.{_&&_};
-ghost use Prim.Native.Nat.{_≤_, _<_, _^_};
-ghost use lib.ListN.{length};
+ghost use Prim.Native.Nat.{_+_, _≤_};
+ghost use lib.ListN.{length, drop};
 ghost use Rattle.lines.specs.Line.{isDigit as Line·isDigit};
-ghost use Rattle.lines.specs.Inner.Scan.{spoiled as Scan·spoiled, withDigit, withMinus, pushed, foundAt, holdsNumber};
+ghost use Rattle.lines.specs.Inner.Scan.{spoiled as Scan·spoiled, firstPart, foundAt, closedAt, minusAt, holdsNumber};
 
 // What the bytes of a part say so far.
 pub struct Part {
@@ -31,78 +31,82 @@ fn spoiled() -> Part
     }
 }
 
-fn is_digit(b: u8) -> bool
+fn is_digit(b: usize) -> bool
     ensures { λ r. ⌜ r ≡ Line·isDigit b ⌝ }
 {
     48 <= b && b <= 57
 }
 
-// A digit more: at most three.
-fn with_digit(part: Part, digit: u8) -> Part
-    requires { ⌜ (part .number < 10 ^ part .digits) × (digit ≤ 9) ⌝ }
-    ensures { λ r. ⌜ r ≡ withDigit part digit ⌝ }
+// The place of the next space, or the text's end.
+fn space_at(text: &[u8], from: usize) -> usize
+    requires { ⌜ from ≤ length (now text) ⌝ }
+    ensures { λ r. ⌜ r ≡ from + length (firstPart (drop from (now (text .entry)))) ⌝ }
 {
-    if part.digits < 3 {
-        return Part {
-            minus: part.minus,
-            digits: part.digits + 1,
-            number: part.number * 10 + digit as u16,
-        };
+    let mut at = from;
+    while at < text.len() {
+        if text[at] == 32 {
+            break;
+        }
+        at += 1;
     }
-    spoiled()
+    at
 }
 
-// A minus: only one, and before the digits.
-fn with_minus(part: Part) -> Part
-    ensures { λ r. ⌜ r ≡ withMinus part ⌝ }
+// The part that ends at a place of the text, where a byte more would spoil it.
+fn closed(text: &[u8], part: Part, at: usize) -> Found
+    requires { ⌜ at ≤ length (now text) ⌝ }
+    ensures { λ r. ⌜ r ≡ closedAt (now (text .entry)) part at ⌝ }
 {
-    if part.minus {
-        return spoiled();
+    if at == text.len() {
+        return Found { part, end: at };
     }
-    if 0 < part.digits {
-        return spoiled();
+    if text[at] == 32 {
+        return Found { part, end: at };
     }
-    Part {
-        minus: true,
-        digits: 0,
-        number: 0,
+    Found {
+        part: spoiled(),
+        end: space_at(text, at),
     }
 }
 
-// A byte more, which is no space.
-fn push(part: Part, b: u8) -> Part
-    requires { ⌜ part .number < 10 ^ part .digits ⌝ }
-    ensures { λ r. ⌜ r ≡ pushed part b ⌝ }
+// A minus stands at a place of the text.
+fn is_minus(text: &[u8], at: usize) -> bool
+    ensures { λ r. ⌜ r ≡ minusAt (now (text .entry)) at ⌝ }
 {
-    if is_digit(b) {
-        return with_digit(part, b - 48);
-    }
-    if b == 45 {
-        return with_minus(part);
-    }
-    spoiled()
+    at < text.len() && text[at] == 45
 }
 
-// The part that starts at a place of the text.
+// The part that starts at a place of the text: a minus or none, then up to three digits. The compiler unrolls the loop, and `usize` spares it
+// widening each digit.
 pub fn part_at(text: &[u8], from: usize) -> Found
     requires { ⌜ from ≤ length (now text) ⌝ }
     ensures { λ r. ⌜ r ≡ foundAt (now (text .entry)) from ⌝ }
 {
-    let mut part = Part {
-        minus: false,
-        digits: 0,
-        number: 0,
-    };
-    let mut at = from;
-    while at < text.len() {
-        let b = text[at];
-        if b == 32 {
+    let minus = is_minus(text, from);
+    let mut digits: usize = 0;
+    let mut number: usize = 0;
+    let mut at = if minus { from + 1 } else { from };
+    while digits < 3 {
+        if at == text.len() {
             break;
         }
-        part = push(part, b);
+        let b = text[at] as usize;
+        if !is_digit(b) {
+            break;
+        }
+        number = number * 10 + (b - 48);
+        digits += 1;
         at += 1;
     }
-    Found { part, end: at }
+    closed(
+        text,
+        Part {
+            minus,
+            digits,
+            number: number as u16,
+        },
+        at,
+    )
 }
 
 // One to three digits were seen.

@@ -4,12 +4,15 @@
 --   scanned p bytes  p with more bytes
 --   firstPart text   the bytes up to the first space
 --   foundAt text i   the part that starts at place i of a text, and where it ends
+--   endedBy p bytes  p where no bytes follow, and spoiled where some do
+--   closedAt text p i   p that ends at place i of a text, where a byte more spoils it
+--   minusAt text i   a minus stands at place i
 -- Assumes nothing.
 use mathlib.Core.Bool.{Bool, true, false, cond, _&&_}
 use mathlib.Core.List.{List, [], _∷_}
 use Prim.Native.Nat.{ℕ, _+_, _-_, _*_}
 use lib.Dec.{ltb, eqb}
-use lib.ListN.{length, drop}
+use lib.ListN.{length, getD, drop}
 use Rattle.lines.specs.Line.{isDigit}
 use Rattle.lines.specs.declared.part.Part.{Part}
 use Rattle.lines.specs.declared.part.Found.{Found}
@@ -39,6 +42,16 @@ firstPart (b ∷ text) = cond (eqb b 32) [] (b ∷ firstPart text)
 
 unfoldable pub foundAt : List ℕ → ℕ → Found
 foundAt text i = record { part = scanned fresh (firstPart (drop i text)); end = i + length (firstPart (drop i text)) }
+
+abbrev pub endedBy : Part → List ℕ → Part
+endedBy p [] = p
+endedBy p (b ∷ more) = spoiled
+
+unfoldable pub closedAt : List ℕ → Part → ℕ → Found
+closedAt text p i = record { part = endedBy p (firstPart (drop i text)); end = i + length (firstPart (drop i text)) }
+
+abbrev pub minusAt : List ℕ → ℕ → Bool
+minusAt text i = ltb i (length text) && eqb (getD text i 0) 45
 
 -- one to three digits were seen
 abbrev pub holdsNumber : Part → Bool
