@@ -2,6 +2,7 @@
 --   Small          the number has no more digits than were seen
 --   small-pushed   and so has the number after a byte more
 --   scan-tells     a number is held exactly where the bytes are one, and it is theirs
+--   shut, shut-on  a byte that spoils a part spoils it for good
 --   plain-is, value-is   the tests of a header's number and of a word line's
 -- Assumes nothing.
 use mathlib.Core.Path.{_≡_, refl, sym, ap, ap₂, subst, _∙_}
@@ -11,7 +12,7 @@ use Prim.Native.Nat.{ℕ, suc, _+_, _-_, _*_, _^_, _≤_, _<_}
 use native.Mathlib.Nat.{pow-suc, pow-le-pow-right, lt-of-lt-of-le, add-zero, zero-add}
 use native.Mathlib.Numerals.{add-one, one-add}
 use native.Mathlib.Omega.{arith}
-use borrow.Author.Tests.{ltb-true, ltb-false, eqb-true, lt-ltb, le-ltb, le-leb, lt-leb, ne-eqb}
+use borrow.Author.Tests.{ltb-true, ltb-false, eqb-true, lt-ltb, le-leb, lt-leb, ne-eqb}
 use lib.Dec.{T, leb, ltb, eqb, leb→le, leb·suc-suc}
 use lib.ListN.{length}
 use Rattle.field.proofs.TestLaws.{and-left, and-right, is-true, is-false, or-right}
@@ -82,35 +83,6 @@ pub shut : (p : Part) (w : List ℕ) → ((b : ℕ) → pushed p b ≡ spoiled) 
 unfolding scanned
 shut p [] f = refl
 shut p (b ∷ w) f = shut-on p b w (f b)
-
--- three digits take no byte more
-pub full-next : (p : Part) (b : ℕ) → 3 ≤ p .digits → pushed p b ≡ spoiled
-unfolding pushed
-full-next p b h = rw (le-ltb (p .digits) 3 h, lt-ltb 0 (p .digits) (omega arith)) (go (isDigit b) (eqb b 45) (p .minus))
-  where
-    go : (t u v : Bool) → cond t spoiled (cond u (cond v spoiled spoiled) spoiled) ≡ spoiled
-    go true u v = refl
-    go false true true = refl
-    go false true false = refl
-    go false false v = refl
-
--- a byte that is no digit spoils a part that can take no minus
-pub other-next : (p : Part) (b : ℕ) → isDigit b ≡ false → (b ≡ 45 → withMinus p ≡ spoiled) → pushed p b ≡ spoiled
-unfolding pushed
-other-next p b e f = rw e (go (eqb b 45) refl)
-  where
-    go : (u : Bool) → eqb b 45 ≡ u → cond u (withMinus p) spoiled ≡ spoiled
-    go true q = f (eqb-true b 45 q)
-    go false q = refl
-
--- a digit more, where fewer than three were seen; then no minus can follow
-pub digit-next : (p : Part) (b : ℕ) → isDigit b ≡ true → p .digits < 3 → pushed p b ≡ part (p .minus) (p .digits + 1) (p .number * 10 + (b - 48))
-unfolding pushed
-digit-next p b e h = rw (e, lt-ltb (p .digits) 3 h)
-
-pub no-minus-next : (minus : Bool) (d n : ℕ) → withMinus (part minus (d + 1) n) ≡ spoiled
-no-minus-next true d n = refl
-no-minus-next false d n = rw (lt-ltb 0 (d + 1) (omega arith))
 
 -- a byte after the sign, or after a first digit
 next-digit : (minus : Bool) (d n b : ℕ) → T (minus || ltb 0 d) → d ≤ 3

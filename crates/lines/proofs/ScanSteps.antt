@@ -3,25 +3,27 @@
 --   scan-minus, scan-plain   at the first byte, a minus or not
 --   scan-digit   a digit more
 --   close-end, close-full, close-other   at the text's end, after three digits, at a byte that is no digit
---   space-on, space-here, space-end      looking for the next space: a byte more, at a space, at the text's end
+--   full-next, other-next, digit-next    what a byte more makes of a part: spoiled after three digits or at no digit, else a digit more
+--   space-on, space-here, space-end      the bytes up to the next space: a byte more, at a space, at the text's end
+--   closed-here, closed-on   a part that ends there, and one that does not
 -- Assumes nothing.
 use mathlib.Core.Path.{_≡_, refl, sym, ap, ap₂, subst, _∙_}
-use mathlib.Core.Bool.{Bool, true, false, true≢false}
+use mathlib.Core.Bool.{Bool, true, false, cond, true≢false}
 use mathlib.Core.List.{List, [], _∷_}
 use Prim.Native.Nat.{ℕ, _+_, _-_, _*_, _≤_, _<_}
 use native.Mathlib.Nat.{add-zero}
 use native.Mathlib.Numerals.{add-one}
 use native.Mathlib.Omega.{arith}
-use borrow.Author.Tests.{eq-eqb, ne-eqb, eqb-true, eqb-false, lt-ltb}
+use borrow.Author.Tests.{eq-eqb, ne-eqb, eqb-true, eqb-false, lt-ltb, le-ltb}
 use lib.Dec.{T, ltb, eqb, ltb→lt, eqb→eq}
 use lib.ListN.{length, getD, drop, drop-of-length-le}
 use lib.Seq.{drop-cons}
 use Rattle.field.proofs.TestLaws.{and-left, and-right}
 use Rattle.lines.specs.Line.{isDigit}
-use Rattle.lines.specs.Inner.Scan.{fresh, spoiled, withMinus, scanned, firstPart, foundAt, endedBy, closedAt, minusAt}
+use Rattle.lines.specs.Inner.Scan.{fresh, spoiled, withMinus, pushed, scanned, firstPart, foundAt, endedBy, closedAt, minusAt}
 use Rattle.lines.specs.declared.part.Part.{Part}
 use Rattle.lines.specs.declared.part.Found.{Found}
-use Rattle.lines.proofs.ScanLaws.{Small, small-pushed, shut, shut-on, full-next, other-next, digit-next, no-minus-next, first-minus, digit-low}
+use Rattle.lines.proofs.ScanLaws.{Small, small-pushed, shut, shut-on, first-minus, digit-low}
 
 abbrev found : Part → ℕ → Found
 found part end = record { part = part; end = end }
@@ -47,6 +49,39 @@ module _ (text : List ℕ) (at : ℕ) where
   pub closed-on : (p : Part) → at < length text → (getD text at 0 ≡ 32 → ⊥) → found spoiled (at + length (firstPart (drop at text))) ≡ closedAt text p at
   unfolding closedAt
   closed-on p h n = ap (λ (q : Part). found q (at + length (firstPart (drop at text)))) (ap (endedBy p) (sym (space-on h n)))
+
+-- three digits take no byte more
+full-next : (p : Part) (b : ℕ) → 3 ≤ p .digits → pushed p b ≡ spoiled
+unfolding pushed
+full-next p b h = rw (le-ltb (p .digits) 3 h, lt-ltb 0 (p .digits) (omega arith)) (go (isDigit b) (eqb b 45) (p .minus))
+  where
+    go : (t u v : Bool) → cond t spoiled (cond u (cond v spoiled spoiled) spoiled) ≡ spoiled
+    go true u v = refl
+    go false true true = refl
+    go false true false = refl
+    go false false v = refl
+
+-- a byte that is no digit spoils a part that can take no minus
+other-next : (p : Part) (b : ℕ) → isDigit b ≡ false → (b ≡ 45 → withMinus p ≡ spoiled) → pushed p b ≡ spoiled
+unfolding pushed
+other-next p b e f = rw e (go (eqb b 45) refl)
+  where
+    go : (u : Bool) → eqb b 45 ≡ u → cond u (withMinus p) spoiled ≡ spoiled
+    go true q = f (eqb-true b 45 q)
+    go false q = refl
+
+-- p with a digit more
+abbrev pub after : Part → ℕ → Part
+after p b = record { minus = p .minus; digits = p .digits + 1; number = p .number * 10 + (b - 48) }
+
+-- a digit more, where fewer than three were seen; then no minus can follow
+digit-next : (p : Part) (b : ℕ) → isDigit b ≡ true → p .digits < 3 → pushed p b ≡ after p b
+unfolding pushed
+digit-next p b e h = rw (e, lt-ltb (p .digits) 3 h)
+
+no-minus-next : (minus : Bool) (d n : ℕ) → withMinus (record { minus = minus; digits = d + 1; number = n }) ≡ spoiled
+no-minus-next true d n = refl
+no-minus-next false d n = rw (lt-ltb 0 (d + 1) (omega arith))
 
 pub record Scanning (text : List ℕ) (from : ℕ) (part : Part) (at : ℕ) : Type 0 where
   pub within : at ≤ length text
@@ -87,7 +122,7 @@ scan-minus text from t =
 
 module _ (text : List ℕ) (from : ℕ) (part : Part) (at : ℕ) (s : Scanning text from part at) where
   pub scan-digit : at < length text → isDigit (getD text at 0) ≡ true → part .digits < 3
-      → Scanning text from (record { minus = part .minus; digits = part .digits + 1; number = part .number * 10 + (getD text at 0 - 48) }) (at + 1)
+      → Scanning text from (after part (getD text at 0)) (at + 1)
   unfolding scanned
   scan-digit h e l =
       let n : getD text at 0 ≡ 32 → ⊥ = λ f. omega (arith, f, digit-low (getD text at 0) e) in
@@ -121,4 +156,7 @@ module _ (text : List ℕ) (from : ℕ) (part : Part) (at : ℕ) (s : Scanning t
       go true q = none (space-here text at h (eqb-true (getD text at 0) 32 q))
       go false q =
           let w = space-on text at h (eqb-false (getD text at 0) 32 q) in
-          closes (ap (scanned part) w ∙ shut-on part (getD text at 0) (firstPart (drop (at + 1) text)) (other-next part (getD text at 0) e (s .sign h)) ∙ ap (endedBy part) (sym w))
+          closes
+          (ap (scanned part) w
+          ∙ shut-on part (getD text at 0) (firstPart (drop (at + 1) text)) (other-next part (getD text at 0) e (s .sign h))
+          ∙ ap (endedBy part) (sym w))
