@@ -19,7 +19,7 @@ if [ "$1" = picture ]; then
     exit
 fi
 
-rust compare && rust cost && c host examples/host.c && c stack bench/stack.c
+rust compare && rust cost && rust program && c host examples/host.c && c stack bench/stack.c
 
 echo "== the calls and bench/reference.rs"
 "$build/compare"
@@ -36,6 +36,20 @@ else
     echo "valgrind is not here: time alone"
     "$build/cost"
 fi
+
+echo "== the program, m = 6, t = 3, order 0, 10,000 words"
+rt check malligovu >"$build/log" 2>&1 || { cat "$build/log"; exit 1; }
+"$build/program" lines >"$build/lines"
+counted() {
+    env -i "$(command -v valgrind)" --tool=callgrind --callgrind-out-file="$build/whole" "$@" >/dev/null 2>&1
+    sed -n 's/^\(totals\|summary\): //p' "$build/whole" | head -n 1
+}
+if command -v valgrind >/dev/null; then
+    whole=$(counted target/bin/malligovu <"$build/lines")
+    calls=$(counted --toggle-collect=malligovu_decode "$build/program" decodes)
+    echo "instructions a word: program $((whole / 10000)), its decode calls $((calls / 10000)), $((whole * 100 / calls)) in 100"
+fi
+/usr/bin/env time -f "%e seconds, %M KB at most" target/bin/malligovu <"$build/lines" >/dev/null
 
 echo "== stack, and what is linked"
 LD_BIND_NOW=1 "$build/stack"
