@@ -9,7 +9,7 @@
 /* the code: m = 6 and t = 3 give words of 63 bits with 45 message bits; s = 3 of them are left out, so 60 bits are sent */
 enum { M = 6, T = 3, S = 3, BITS = 60, ORDER = 2 };
 
-/* noise of a deviation near 0.6: twelve uniform numbers, summed, are near enough to a normal one */
+/* noise of a deviation near 0.6, picked so that some bits are heard wrongly and the word still comes back: twelve uniform numbers, summed, are near enough to a normal one */
 static double noise(void) {
     static uint32_t state = 1;
     double sum = -6;
