@@ -25,7 +25,7 @@ use Rattle.decode.proofs.DecodeOneAnswer as decode
 use Rattle.decode.proofs.decode.Statement as decode-stated
 use Rattle.decode.proofs.decode.Met as decode-met
 use Rattle.export.proofs.ToldOneAnswer as told
-use Rattle.stream.specs.Claims.{BlocksDoNotMatter, AnsweredAtOnce, NothingAfterTheEnd}
+use Rattle.stream.specs.Claims.{BlocksDoNotMatter, AnsweredAtOnce, NothingAfterTheEnd, NothingIsGuessed, UnfinishedLinesWait}
 use Rattle.stream.proofs.ClaimsShown as stream-shown
 use Rattle.demands.specs.Demands.{ContractsMeetDemands, OursMeetDemands, DemandsAreContracts, NothingElseMeetsThem, SecondGivesThird, EqualityIsNotPromised}
 use Rattle.demands.specs.Ours.{ours}
@@ -193,3 +193,9 @@ answered-at-once = stream-shown.answered-at-once
 
 pub nothing-after-the-end : NothingAfterTheEnd
 nothing-after-the-end = stream-shown.nothing-after-the-end
+
+pub nothing-is-guessed : NothingIsGuessed
+nothing-is-guessed = stream-shown.nothing-is-guessed
+
+pub unfinished-lines-wait : UnfinishedLinesWait
+unfinished-lines-wait = stream-shown.unfinished-lines-wait

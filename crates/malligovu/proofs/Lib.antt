@@ -1,1 +1,2 @@
 pub mod ExampleShown
+pub mod TakenLaws

@@ -1,12 +1,14 @@
-// The product: standard input to standard output, a block at a time. All that a block answers is written before the next is read.
+// The product: standard input to standard output, a read at a time. All that a read answers is written before the next.
 ghost use mathlib.Core.Path.{_≡_};
+ghost use Prim.Native.Nat.{_≤_};
 ghost use lib.ListN.{length};
-ghost use Rattle.stream.specs.Stepped.{Ready};
-use libc::STDIN_FILENO;
-use libc::STDOUT_FILENO;
+ghost use Rattle.stream.specs.Memory.{afterBlock};
+ghost use Rattle.stream.specs.Stepped.{Ready, memoryOf};
+ghost use Rattle.malligovu.specs.Taken.{Takes, TakesSome};
+use stdio::Outcome;
 use stream::State;
 
-// What is remembered after a block, and whether to read on.
+// What is remembered after a read, and whether to read on.
 struct Turn {
     state: State,
     on: bool,
@@ -18,26 +20,20 @@ fn answer_end(state: State, line: &[u8], out: &mut [u8])
     requires { ⌜ 262144 ≡ length (now out) ⌝ }
 {
     let wrote = stream::end(state, line, out);
-    io::write_all(STDOUT_FILENO, &out[..wrote]);
+    stdio::write_all(&out[..wrote]);
 }
 
-// One read, and all that it answers. A read that fails is the end of the input; a write that fails ends the program.
-fn take_block(state: State, line: &mut [u8], block: &mut [u8], out: &mut [u8]) -> Turn
+// What the bytes of a read answer. Where not all of it could be written, the program ends.
+fn answer_bytes(state: State, line: &mut [u8], bytes: &[u8], out: &mut [u8]) -> Turn
     requires { ⌜ Ready state (now line) ⌝ }
-    requires { ⌜ 4096 ≡ length (now block) ⌝ }
+    requires { ⌜ length (now bytes) ≤ 4096 ⌝ }
     requires { ⌜ 262144 ≡ length (now out) ⌝ }
-    ensures { λ r. ⌜ Ready (r .state) (now (line .exit)) ⌝ }
+    ensures { λ r. ⌜ Takes (memoryOf state (now (line .entry))) (now (bytes .entry)) (r .state) (now (line .exit)) ⌝ }
 {
-    let got = libc::read(STDIN_FILENO, block);
-    let n = io::count(got, block);
-    if n == 0 {
-        answer_end(state, line, out);
-        return Turn { state, on: false };
-    }
-    let stepped = stream::step(state, line, &block[..n], out);
+    let stepped = stream::step(state, line, bytes, out);
     let wrote = stepped.wrote;
     let after = stepped.state;
-    if !io::write_all(STDOUT_FILENO, &out[..wrote]) {
+    if stdio::write_all(&out[..wrote]) < wrote {
         return Turn {
             state: after,
             on: false,
@@ -46,6 +42,28 @@ fn take_block(state: State, line: &mut [u8], block: &mut [u8], out: &mut [u8]) -
     Turn {
         state: after,
         on: !stream::ended(after),
+    }
+}
+
+// One read, and all that it answers. Only a read of no bytes is the end of the input: where one fails, the unfinished line is not
+// answered, and where one is to be made again, it is made in the next turn.
+fn take_block(state: State, line: &mut [u8], block: &mut [u8], out: &mut [u8]) -> Turn
+    requires { ⌜ Ready state (now line) ⌝ }
+    requires { ⌜ 4096 ≡ length (now block) ⌝ }
+    requires { ⌜ 262144 ≡ length (now out) ⌝ }
+    ensures { λ r. ⌜ TakesSome (memoryOf state (now (line .entry))) (now (block .exit)) (r .state) (now (line .exit)) ⌝ }
+{
+    let got = stdio::read(block);
+    match got {
+        Outcome::Moved(n) => {
+            if n == 0 {
+                answer_end(state, line, out);
+                return Turn { state, on: false };
+            }
+            answer_bytes(state, line, &block[..n], out)
+        }
+        Outcome::Later => Turn { state, on: true },
+        Outcome::Failed => Turn { state, on: false },
     }
 }
 

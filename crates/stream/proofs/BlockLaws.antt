@@ -1,5 +1,4 @@
 -- What a block prints and what is remembered after it, part by part: up to a newline, a newline, and the rest.
---   NoNewline    a part of a line
 -- Assumes nothing.
 use mathlib.Core.Path.{_≡_, refl, ap, ap₂, sym, _∙_}
 use mathlib.Core.Bool.{Bool, false}
@@ -8,11 +7,12 @@ use Prim.Native.Nat.{ℕ, suc, _<_, _≤_}
 use native.Mathlib.Omega.{arith}
 use borrow.Author.Tests.{ne-eqb}
 use lib.Dec.{eqb}
-use lib.ListN.{length, getD, length-take}
+use lib.ListN.{length, length-take}
 use lib.Seq.{take-all, append-snoc}
 use Rattle.stream.specs.Program.{newline}
 use Rattle.stream.specs.Awaited.{lineSays, phaseAfter}
 use Rattle.stream.specs.Memory.{Memory, kept, saysIf, byteSays, afterIf, afterByte, blockSays, afterBlock}
+use Rattle.stream.specs.Claims.{NoNewline}
 use Rattle.stream.proofs.KeptLaws.{kept-again}
 
 pub says-append : (m : Memory) (a b : List ℕ) → blockSays m (a ++ b) ≡ blockSays m a ++ blockSays (afterBlock m a) b
@@ -26,9 +26,6 @@ pub after-append : (m : Memory) (a b : List ℕ) → afterBlock m (a ++ b) ≡ a
 unfolding afterBlock
 after-append m [] b = refl
 after-append m (x ∷ a) b = after-append (afterByte m x) a b
-
-abbrev pub NoNewline : List ℕ → Type 0
-NoNewline part = (k : ℕ) → k < length part → getD part k 0 ≡ newline → ⊥
 
 tail-too : (b : ℕ) (part : List ℕ) → NoNewline (b ∷ part) → NoNewline part
 tail-too b part none k h e = none (suc k) (omega arith) e

@@ -16,6 +16,7 @@ use Rattle.stream.specs.Program.{newline}
 use Rattle.stream.specs.Awaited.{lineSays}
 use Rattle.stream.specs.Memory.{Memory, blockSays, afterBlock}
 use Rattle.stream.specs.Stepped.{Ready, memoryOf, Steps}
+use Rattle.stream.specs.Claims.{NoNewline}
 use Rattle.stream.specs.Inner.Found.{Found}
 use Rattle.stream.specs.Inner.Held.{Holds}
 use Rattle.stream.specs.Inner.Finished.{Answers, Finishes}
@@ -23,7 +24,7 @@ use Rattle.stream.specs.declared.State.{State}
 use Rattle.stream.specs.declared.phase.Answered.{Answered}
 use Rattle.stream.specs.declared.phase.Phase.{Phase}
 use Rattle.stream.proofs.PutLaws.{put-within, put-prints, put-after}
-use Rattle.stream.proofs.BlockLaws.{NoNewline, says-append, after-append, says-part, after-part, says-line, after-line}
+use Rattle.stream.proofs.BlockLaws.{says-append, after-append, says-part, after-part, says-line, after-line}
 
 pub record Turned (m : Memory) (block before : List ℕ) (s : State) (line out : List ℕ) (at wrote end : ℕ) : Type 0 where
   pub found : Found block at end

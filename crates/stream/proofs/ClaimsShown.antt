@@ -1,19 +1,19 @@
 -- The claims of specs/Claims, each under its name. Assumes nothing.
 use mathlib.Core.Path.{_≡_, refl, ap, sym, _∙_}
 use mathlib.Core.Bool.{Bool, true, false}
-use mathlib.Core.List.{List, [], _∷_, _++_, append-nil}
+use mathlib.Core.List.{List, [], _∷_, _++_, append-nil, append-assoc}
 use Prim.Native.Nat.{ℕ}
 use Rattle.lines.specs.Header.{headerOf}
 use Rattle.lines.specs.Answer.{goesOn}
 use Rattle.lines.specs.declared.header.Header.{Header}
 use Rattle.stream.specs.Program.{newline}
 use Rattle.stream.specs.Awaited.{wordsOrEnd, phaseAfter, lastSays}
-use Rattle.stream.specs.Memory.{Memory, start, blockSays, afterBlock, endSays, blocksSay}
-use Rattle.stream.specs.Claims.{joined, BlocksDoNotMatter, AnsweredAtOnce, NothingAfterTheEnd}
+use Rattle.stream.specs.Memory.{Memory, start, blockSays, afterBlock, endSays, blocksSay, saidSoFar}
+use Rattle.stream.specs.Claims.{joined, NoNewline, BlocksDoNotMatter, AnsweredAtOnce, NothingAfterTheEnd, NothingIsGuessed, UnfinishedLinesWait}
 use Rattle.stream.specs.declared.phase.Phase.{Phase}
 use Rattle.stream.specs.declared.phase.Phase.the-variants.{First, Words, Ended}
 use Rattle.stream.proofs.StillLaws.{still, still-block, still-end, still-start}
-use Rattle.stream.proofs.BlockLaws.{after-append}
+use Rattle.stream.proofs.BlockLaws.{says-append, says-part, after-append}
 
 blocks-still : (m : Memory) (blocks : List (List ℕ)) → blocksSay m blocks ≡ still m (joined blocks)
 unfolding blocksSay
@@ -47,3 +47,27 @@ answered-at-once input =
 
 pub nothing-after-the-end : NothingAfterTheEnd
 nothing-after-the-end text blocks = blocks-still (record { phase = Ended; text = text }) blocks
+
+-- what came in blocks says what it says as one
+so-far-joined : (m : Memory) (blocks : List (List ℕ)) → saidSoFar m blocks ≡ blockSays m (joined blocks)
+unfolding saidSoFar blockSays
+so-far-joined m [] = refl
+so-far-joined m (block ∷ blocks) =
+    ap (λ (l : List ℕ). blockSays m block ++ l) (so-far-joined (afterBlock m block) blocks) ∙ sym (says-append m block (joined blocks))
+
+pub nothing-is-guessed : NothingIsGuessed
+nothing-is-guessed blocks more = record {
+  rest = still (afterBlock start (joined blocks)) more;
+  goesOn =
+      ap (λ (l : List ℕ). l ++ still (afterBlock start (joined blocks)) more) (so-far-joined start blocks)
+      ∙ sym (still-block start (joined blocks) more) ∙ still-start (joined blocks ++ more);
+}
+
+pub unfinished-lines-wait : UnfinishedLinesWait
+unfinished-lines-wait lines part none =
+    let ended = lines ++ newline ∷ [] in (
+      says-part start part none,
+      ap (blockSays start) (sym (append-assoc lines (newline ∷ []) part)) ∙ says-append start ended part
+          ∙ ap (λ (l : List ℕ). blockSays start ended ++ l) (says-part (afterBlock start ended) part none)
+          ∙ append-nil (blockSays start ended) ∙ answered-at-once lines,
+    )

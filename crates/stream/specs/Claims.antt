@@ -2,12 +2,15 @@
 --   BlocksDoNotMatter      whatever blocks the input comes in, the output is that of the whole
 --   AnsweredAtOnce         with a newline everything is printed that the input so far prints
 --   NothingAfterTheEnd     once the program has ended it prints nothing, so that it need not read on
+--   NothingIsGuessed       whatever was read so far, what is printed is a beginning of what every input that begins so prints
+--   UnfinishedLinesWait    and it is the answers to the finished lines: a line that has not ended adds nothing to them
 -- Assumes nothing.
 use mathlib.Core.Path.{_≡_}
 use mathlib.Core.List.{List, [], _∷_, _++_}
-use Prim.Native.Nat.{ℕ}
+use Prim.Native.Nat.{ℕ, _<_}
+use lib.ListN.{length, getD}
 use Rattle.stream.specs.Program.{newline, programOutput}
-use Rattle.stream.specs.Memory.{start, blockSays, blocksSay}
+use Rattle.stream.specs.Memory.{start, blockSays, blocksSay, saidSoFar}
 use Rattle.stream.specs.declared.phase.Phase.the-variants.{Ended}
 
 abbrev pub joined : List (List ℕ) → List ℕ
@@ -22,3 +25,20 @@ AnsweredAtOnce = (input : List ℕ) → blockSays start (input ++ newline ∷ []
 
 abbrev pub NothingAfterTheEnd : Type 0
 NothingAfterTheEnd = (text : List ℕ) (blocks : List (List ℕ)) → blocksSay (record { phase = Ended; text = text }) blocks ≡ []
+
+-- the one text begins the other
+pub record BeginningOf (part whole : List ℕ) : Type 0 where
+  pub rest : List ℕ
+  pub goesOn : part ++ rest ≡ whole
+
+-- so an end that is not the end of the input leaves only right answers behind
+abbrev pub NothingIsGuessed : Type 0
+NothingIsGuessed = (blocks : List (List ℕ)) (more : List ℕ) → BeginningOf (saidSoFar start blocks) (programOutput (joined blocks ++ more))
+
+-- a part of a line
+abbrev pub NoNewline : List ℕ → Type 0
+NoNewline part = (k : ℕ) → k < length part → getD part k 0 ≡ newline → ⊥
+
+abbrev pub UnfinishedLinesWait : Type 0
+UnfinishedLinesWait = (lines part : List ℕ) → NoNewline part
+    → (blockSays start part ≡ []) × (blockSays start (lines ++ newline ∷ part) ≡ programOutput (lines ++ newline ∷ []))
