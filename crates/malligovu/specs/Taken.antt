@@ -1,18 +1,50 @@
--- What a turn of the program's loop promises of what is remembered.
---   Takes        it is the step's, over these bytes
---   TakesSome    it is the step's, over the block's first bytes, as many as were read: none where nothing was
--- Which bytes were read, how many, and that the answers were written, no contract can say. Assumes nothing.
+-- What a turn of the program's loop does, by what its read brought. Which bytes were read, and that the answers were written, no contract can
+-- say: the text to be written stands at the start of the output's memory.
+--   Takes        what is remembered after the turn is the step's, over these bytes
+--   Printed      the text stands in the output's memory
+--   Took         both
+--   Answers      what follows from bytes
+--   Follows      what follows from each outcome of a read
+--   TakesSome    whatever the outcome: the step's over the block's first bytes, as many as were read, or none
+-- Assumes nothing.
 use mathlib.Core.Path.{_≡_}
-use mathlib.Core.List.{List}
-use Prim.Native.Nat.{ℕ, _≤_}
+use mathlib.Core.Bool.{true, false}
+use mathlib.Core.List.{List, []}
+use Prim.Native.Nat.{ℕ, zero, suc, _≤_}
 use lib.ListN.{length, take}
-use Rattle.stream.specs.Memory.{Memory, afterBlock}
+use Rattle.lines.specs.Put.{Put}
+use Rattle.stream.specs.Awaited.{isEnded}
+use Rattle.stream.specs.Memory.{Memory, blockSays, afterBlock, endSays}
 use Rattle.stream.specs.Stepped.{Ready, memoryOf}
 use Rattle.stream.specs.declared.State.{State}
+use Rattle.stdio.specs.declared.Outcome.{Outcome}
+use Rattle.stdio.specs.declared.Outcome.the-variants.{Moved, Later, Failed}
+use Rattle.malligovu.specs.declared.Turn.{Turn}
 
 pub record Takes (m : Memory) (bytes : List ℕ) (s : State) (line : List ℕ) : Type 0 where
   pub remembers : memoryOf s line ≡ afterBlock m bytes
   pub ready : Ready s line
+
+pub record Printed (text before after : List ℕ) : Type 0 where
+  pub count : ℕ
+  pub writes : Put text before count after
+
+pub record Took (m : Memory) (bytes text before : List ℕ) (r : Turn) (line after : List ℕ) : Type 0 where
+  pub takes : Takes m bytes (r .state) line
+  pub printed : Printed text before after
+
+-- what bytes answer; once the program has ended there is no further read
+pub record Answers (m : Memory) (bytes before : List ℕ) (r : Turn) (line after : List ℕ) : Type 0 where
+  pub took : Took m bytes (blockSays m bytes) before r line after
+  pub ends : isEnded (r .state .phase) ≡ true → r .on ≡ false
+
+-- 0 bytes is the end of the input, and nothing else is. Where the read is to be made again, or failed, nothing is printed, and nothing of the
+-- unfinished line is lost or answered
+abbrev pub Follows : Outcome → Memory → List ℕ → List ℕ → Turn → List ℕ → List ℕ → Type 0
+Follows (Moved zero) m block before r line after = Took m [] (endSays m) before r line after × (r .on ≡ false)
+Follows (Moved (suc n)) m block before r line after = Answers m (take (suc n) block) before r line after
+Follows Later m block before r line after = Took m [] [] before r line after × (r .on ≡ true)
+Follows Failed m block before r line after = Took m [] [] before r line after × (r .on ≡ false)
 
 pub record TakesSome (m : Memory) (block : List ℕ) (s : State) (line : List ℕ) : Type 0 where
   pub count : ℕ

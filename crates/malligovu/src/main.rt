@@ -1,10 +1,13 @@
 // The product: standard input to standard output, a read at a time. All that a read answers is written before the next.
 ghost use mathlib.Core.Path.{_≡_};
+ghost use mathlib.Core.Bool.{true, false};
 ghost use Prim.Native.Nat.{_≤_};
 ghost use lib.ListN.{length};
-ghost use Rattle.stream.specs.Memory.{afterBlock};
+ghost use Rattle.stream.specs.Awaited.{isEnded};
+ghost use Rattle.stream.specs.Memory.{endSays};
 ghost use Rattle.stream.specs.Stepped.{Ready, memoryOf};
-ghost use Rattle.malligovu.specs.Taken.{Takes, TakesSome};
+ghost use Rattle.stdio.specs.Outcome.{Within};
+ghost use Rattle.malligovu.specs.Taken.{Printed, Answers, Follows, TakesSome};
 use stdio::Outcome;
 use stream::State;
 
@@ -14,46 +17,50 @@ struct Turn {
     on: bool,
 }
 
-// What the end of the input adds.
+// What the end of the input adds. Whether it could be written or not, nothing follows.
 fn answer_end(state: State, line: &[u8], out: &mut [u8])
     requires { ⌜ Ready state (now line) ⌝ }
     requires { ⌜ 262144 ≡ length (now out) ⌝ }
+    ensures { λ _. ⌜ Printed (endSays (memoryOf state (now (line .entry)))) (now (out .entry)) (now (out .exit)) ⌝ }
 {
     let wrote = stream::end(state, line, out);
     stdio::write_all(&out[..wrote]);
 }
 
-// What the bytes of a read answer. Where not all of it could be written, the program ends.
+// Whether there is a further read: all was written, and more may have to be.
+fn reads_on(written: bool, state: State) -> bool
+    ensures { λ r. ⌜ (isEnded (state .phase) ≡ true → r ≡ false) ⌝ }
+{
+    if stream::ended(state) {
+        return false;
+    }
+    written
+}
+
+// What the bytes of a read answer. Where not all of it could be written, there is no further read.
 fn answer_bytes(state: State, line: &mut [u8], bytes: &[u8], out: &mut [u8]) -> Turn
     requires { ⌜ Ready state (now line) ⌝ }
     requires { ⌜ length (now bytes) ≤ 4096 ⌝ }
     requires { ⌜ 262144 ≡ length (now out) ⌝ }
-    ensures { λ r. ⌜ Takes (memoryOf state (now (line .entry))) (now (bytes .entry)) (r .state) (now (line .exit)) ⌝ }
+    ensures { λ r. ⌜ Answers (memoryOf state (now (line .entry))) (now (bytes .entry)) (now (out .entry)) r
+        (now (line .exit)) (now (out .exit)) ⌝ }
 {
     let stepped = stream::step(state, line, bytes, out);
     let wrote = stepped.wrote;
     let after = stepped.state;
-    if stdio::write_all(&out[..wrote]) < wrote {
-        return Turn {
-            state: after,
-            on: false,
-        };
-    }
-    Turn {
-        state: after,
-        on: !stream::ended(after),
-    }
+    let taken = stdio::write_all(&out[..wrote]);
+    let on = reads_on(taken == wrote, after);
+    Turn { state: after, on }
 }
 
-// One read, and all that it answers. Only a read of no bytes is the end of the input: where one fails, the unfinished line is not
-// answered, and where one is to be made again, it is made in the next turn.
-fn take_block(state: State, line: &mut [u8], block: &mut [u8], out: &mut [u8]) -> Turn
+// What follows from a read.
+fn follow(state: State, line: &mut [u8], block: &[u8], got: Outcome, out: &mut [u8]) -> Turn
     requires { ⌜ Ready state (now line) ⌝ }
-    requires { ⌜ 4096 ≡ length (now block) ⌝ }
+    requires { ⌜ (length (now block) ≤ 4096) × Within got (now block) ⌝ }
     requires { ⌜ 262144 ≡ length (now out) ⌝ }
-    ensures { λ r. ⌜ TakesSome (memoryOf state (now (line .entry))) (now (block .exit)) (r .state) (now (line .exit)) ⌝ }
+    ensures { λ r. ⌜ Follows got (memoryOf state (now (line .entry))) (now (block .entry)) (now (out .entry)) r
+        (now (line .exit)) (now (out .exit)) ⌝ }
 {
-    let got = stdio::read(block);
     match got {
         Outcome::Moved(n) => {
             if n == 0 {
@@ -65,6 +72,17 @@ fn take_block(state: State, line: &mut [u8], block: &mut [u8], out: &mut [u8]) -
         Outcome::Later => Turn { state, on: true },
         Outcome::Failed => Turn { state, on: false },
     }
+}
+
+// One read, and all that follows from it.
+fn take_block(state: State, line: &mut [u8], block: &mut [u8], out: &mut [u8]) -> Turn
+    requires { ⌜ Ready state (now line) ⌝ }
+    requires { ⌜ 4096 ≡ length (now block) ⌝ }
+    requires { ⌜ 262144 ≡ length (now out) ⌝ }
+    ensures { λ r. ⌜ TakesSome (memoryOf state (now (line .entry))) (now (block .exit)) (r .state) (now (line .exit)) ⌝ }
+{
+    let got = stdio::read(block);
+    follow(state, line, block, got, out)
 }
 
 // A proved loop has to end, and nothing says that an input does: it counts its reads down, from a number that no run uses up.

@@ -2,7 +2,7 @@
 // failure is said in a line on standard error.
 ghost use Prim.Native.Nat.{_≤_};
 ghost use lib.ListN.{length};
-ghost use Rattle.stdio.specs.Outcome.{Within};
+ghost use Rattle.stdio.specs.Outcome.{Means, Within};
 use libc::EAGAIN;
 use libc::EINTR;
 use libc::STDIN_FILENO;
@@ -29,23 +29,40 @@ fn wait() {
     libc::nanosleep(&asked, &mut left);
 }
 
-// What the system's answer to a call just made means, and what follows from it at once.
-fn outcome_of(got: isize, lent: &[u8], name: &[u8]) -> Outcome
-    ensures { λ r. ⌜ Within r (now (lent .entry)) ⌝ }
+// What the system's answer to a call means, by errno where it is no count.
+fn outcome_of(got: isize, error: i32, lent: &[u8]) -> Outcome
+    ensures { λ r. ⌜ Means got error (now (lent .entry)) r ⌝ }
 {
     if got >= 0 {
         return Outcome::Moved(io::count(got, lent));
     }
-    let error = os::errno();
     if error == EINTR {
         return Outcome::Later;
     }
     if error == EAGAIN {
-        wait();
         return Outcome::Later;
     }
-    os::fail(name);
     Outcome::Failed
+}
+
+// What came of the call just made, and what follows at once: what is not ready is given time, and a failure is said.
+fn came_of(got: isize, lent: &[u8], name: &[u8]) -> Outcome
+    ensures { λ r. ⌜ Within r (now (lent .entry)) ⌝ }
+{
+    let error = os::errno();
+    let outcome = outcome_of(got, error, lent);
+    match outcome {
+        Outcome::Moved(_) => {}
+        Outcome::Later => {
+            if error == EAGAIN {
+                wait();
+            }
+        }
+        Outcome::Failed => {
+            os::fail(name);
+        }
+    }
+    outcome
 }
 
 // One read of standard input. Moved(0) is the end of the input, and nothing else is.
@@ -53,7 +70,7 @@ pub fn read(block: &mut [u8]) -> Outcome
     ensures { λ r. ⌜ Within r (now (block .exit)) ⌝ }
 {
     let got = libc::read(STDIN_FILENO, block);
-    outcome_of(got, block, b"malligovu: standard input")
+    came_of(got, block, b"malligovu: standard input")
 }
 
 // One write to standard output.
@@ -61,7 +78,7 @@ fn write(text: &[u8]) -> Outcome
     ensures { λ r. ⌜ Within r (now (text .entry)) ⌝ }
 {
     let put = libc::write(STDOUT_FILENO, text);
-    outcome_of(put, text, b"malligovu: standard output")
+    came_of(put, text, b"malligovu: standard output")
 }
 
 // Writes the text to standard output, in as many calls as it takes, and gives back how many bytes were taken: all, unless a call failed.

@@ -9,7 +9,7 @@ use Rattle.lines.specs.declared.header.Header.{Header}
 use Rattle.stream.specs.Program.{newline}
 use Rattle.stream.specs.Awaited.{wordsOrEnd, phaseAfter, lastSays}
 use Rattle.stream.specs.Memory.{Memory, start, blockSays, afterBlock, endSays, blocksSay, saidSoFar}
-use Rattle.stream.specs.Claims.{joined, NoNewline, BlocksDoNotMatter, AnsweredAtOnce, NothingAfterTheEnd, NothingIsGuessed, UnfinishedLinesWait}
+use Rattle.stream.specs.Claims.{joined, BlocksDoNotMatter, AnsweredAtOnce, NothingAfterTheEnd, NothingIsGuessed, UnfinishedLinesWait}
 use Rattle.stream.specs.declared.phase.Phase.{Phase}
 use Rattle.stream.specs.declared.phase.Phase.the-variants.{First, Words, Ended}
 use Rattle.stream.proofs.StillLaws.{still, still-block, still-end, still-start}

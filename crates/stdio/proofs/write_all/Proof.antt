@@ -27,7 +27,8 @@ abbrev rest : List ℕ → ℕ → List ℕ
 rest text done = take (length text - done) (drop done text)
 
 -- what a call moved of the rest leaves the place within the text
-moved-within : {put : Outcome} {n : ℕ} (text : List ℕ) (done : ℕ) → done ≤ length text → put ≡ Moved n → Within put (rest text done) → done + n ≤ length text
+moved-within : {put : Outcome} {n : ℕ} (text : List ℕ) (done : ℕ) → done ≤ length text → put ≡ Moved n → Within put (rest text done)
+    → done + n ≤ length text
 moved-within text done low e within =
     let fits = moved-counts (rest text done) e within .0 in
     omega (arith, length-take (length text - done) (drop done text), length-drop done text)
@@ -54,7 +55,8 @@ add-done : tie.Need-add-done Inv-loop μ-loop
 add-done c =
     let w = c .before .before .before in
     let l = w .before .before .before .before in
-    let fits = moved-within (now (l .before .before .args .text)) (l .loop .done) (l .loop .inv) (c .before .put .given .1) (w .write .ensures) in
+    let text = now (l .before .before .args .text) in
+    let fits = moved-within text (l .loop .done) (l .loop .inv) (c .before .put .given .1) (w .write .ensures) in
     record { fits = omega arith }
 
 enum-told : tie.Need-enum-told Inv-loop μ-loop
@@ -76,8 +78,8 @@ loop-again : tie.Need-loop-again Inv-loop μ-loop
 loop-again c =
     let w = c .before in
     let l = w .before .before .before .before in
-    ⊎-elim
-    (λ k. rw (k .3) (moved-within (now (l .before .before .args .text)) (l .loop .done) (l .loop .inv) (k .1 .given .1) (w .write .ensures)))
+    let text = now (l .before .before .args .text) in
+    ⊎-elim (λ k. rw (k .3) (moved-within text (l .loop .done) (l .loop .inv) (k .1 .given .1) (w .write .ensures)))
     (λ k. rw (k .2) (l .loop .inv)) (c .match .came)
 
 returns-2 : tie.Need-returns-2 Inv-loop μ-loop
