@@ -180,7 +180,7 @@ impl Bench {
         command.stdin(OwnedFd::from(input)).stdout(OwnedFd::from(output)).stderr(Stdio::piped()).spawn().unwrap()
     }
 
-    /// Pipes that are not waited for, with slow other ends: the words many times over, so that both pipes fill and run dry.
+    /// Pipes with slow other ends, waited for or not: the words many times over, so that both pipes fill and run dry.
     fn slow_pipes(&self) -> usize {
         let header = self.input.iter().position(|&b| b == b'\n').unwrap() + 1;
         let (mut input, mut output) = (self.input.clone(), self.output.clone());
@@ -190,7 +190,7 @@ impl Bench {
             output.extend(&self.output);
         }
         let mut bad = 0;
-        for (name, blocks_in, blocks_out, stops) in [("a slow writer, pipes not waited for", false, false, 0), ("the same, pipes waited for", true, true, 0),
+        for (name, blocks_in, blocks_out, stops) in [("slow other ends, pipes not waited for", false, false, 0), ("slow other ends, pipes waited for", true, true, 0),
             ("pipes not waited for, stopped and continued 100 times", false, false, 100), ("pipes waited for, stopped and continued 100 times", true, true, 100)]
         {
             let ((from, mut to), (mut back, out)) = (pipe().unwrap(), pipe().unwrap());
@@ -219,13 +219,16 @@ impl Bench {
                         sleep(Duration::from_micros(1700));
                     }
                 });
-                let mut part = [0; 600];
+                let mut part = [0; 200];
                 loop {
                     match back.read(&mut part).unwrap() {
                         0 => break,
                         n => got.extend(&part[..n]),
                     }
-                    sleep(Duration::from_micros(1000));
+                    // slow first, so that what is not read fills both pipes, and then fast, so that they run dry
+                    if got.len() < output.len() / 2 {
+                        sleep(Duration::from_micros(1000));
+                    }
                 }
             });
             bad += self.check(name, got == output && collect(child).error.is_empty());

@@ -1,4 +1,5 @@
--- Document 01's whole example, shown of the definition in proofs/ExampleShown, and run (the files stdin and stdout). Assumes nothing.
+-- Document 01's whole example, shown of the definition in proofs/ExampleShown, and run (the files stdin and stdout begin with it).
+-- Assumes nothing.
 use mathlib.Core.Path.{_≡_}
 use mathlib.Core.List as L
 use Prim.Native.Nat.{ℕ}
