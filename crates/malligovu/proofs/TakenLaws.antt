@@ -11,7 +11,7 @@ use Rattle.stream.specs.declared.State.{State}
 use Rattle.stdio.specs.Outcome.{Within}
 use Rattle.stdio.specs.declared.Outcome.{Outcome}
 use Rattle.stdio.specs.declared.Outcome.the-variants.{Moved, Later, Failed}
-use Rattle.malligovu.specs.Taken.{Takes, Printed, Took, Answers, Follows, TakesSome}
+use Rattle.malligovu.specs.Taken.{Takes, Printed, Took, Answers, Follows, TakesSome, Turns}
 use Rattle.malligovu.specs.declared.Turn.{Turn}
 
 module _ (s : State) (line : List ℕ) (ready : Ready s line) (block before : List ℕ) where
@@ -44,8 +44,11 @@ module _ (m : Memory) (block before : List ℕ) (r : Turn) (line after : List �
       → Follows got m block before r line after
   follows-bytes e some answers = rw e (some-bytes _ some answers)
 
-  pub takes-some : (got : Outcome) → Within got block → Follows got m block before r line after → TakesSome m block (r .state) line
+  takes-some : (got : Outcome) → Within got block → Follows got m block before r line after → TakesSome m block (r .state) line
   takes-some (Moved zero) within follows = record { count = 0; within = omega arith; takes = follows .0 .takes }
   takes-some (Moved (suc n)) within follows = record { count = suc n; within = within .0; takes = follows .took .takes }
   takes-some Later within follows = record { count = 0; within = omega arith; takes = follows .0 .takes }
   takes-some Failed within follows = record { count = 0; within = omega arith; takes = follows .0 .takes }
+
+  pub turns : (got : Outcome) → Within got block → Follows got m block before r line after → Turns m block before r line after
+  turns got within follows = record { got = got; within = within; follows = follows; takes = takes-some got within follows }

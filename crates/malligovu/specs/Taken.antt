@@ -3,12 +3,14 @@
 --   Takes        what is remembered after the turn is the step's, over these bytes
 --   Printed      the text stands in the output's memory
 --   Took         both
+--   ReadsOn      whether there is a further read
 --   Answers      what follows from bytes
 --   Follows      what follows from each outcome of a read
---   TakesSome    whatever the outcome: the step's over the block's first bytes, as many as were read, or none
+--   TakesSome    what is remembered is the step's, over the block's first n bytes, for some n
+--   Turns        what follows from some outcome of a read into this block
 -- Assumes nothing.
 use mathlib.Core.Path.{_≡_}
-use mathlib.Core.Bool.{true, false}
+use mathlib.Core.Bool.{Bool, true, false}
 use mathlib.Core.List.{List, []}
 use Prim.Native.Nat.{ℕ, zero, suc, _≤_}
 use lib.ListN.{length, take}
@@ -17,6 +19,8 @@ use Rattle.stream.specs.Awaited.{isEnded}
 use Rattle.stream.specs.Memory.{Memory, blockSays, afterBlock, endSays}
 use Rattle.stream.specs.Stepped.{Ready, memoryOf}
 use Rattle.stream.specs.declared.State.{State}
+use Rattle.stream.specs.declared.phase.Phase.{Phase}
+use Rattle.stdio.specs.Outcome.{Within}
 use Rattle.stdio.specs.declared.Outcome.{Outcome}
 use Rattle.stdio.specs.declared.Outcome.the-variants.{Moved, Later, Failed}
 use Rattle.malligovu.specs.declared.Turn.{Turn}
@@ -33,13 +37,17 @@ pub record Took (m : Memory) (bytes text before : List ℕ) (r : Turn) (line aft
   pub takes : Takes m bytes (r .state) line
   pub printed : Printed text before after
 
--- what bytes answer; once the program has ended there is no further read
+-- once the program has ended there is none; else there is one where all was written
+pub record ReadsOn (written : Bool) (phase : Phase) (on : Bool) : Type 0 where
+  pub ends : isEnded phase ≡ true → on ≡ false
+  pub goesOn : isEnded phase ≡ false → on ≡ written
+
 pub record Answers (m : Memory) (bytes before : List ℕ) (r : Turn) (line after : List ℕ) : Type 0 where
   pub took : Took m bytes (blockSays m bytes) before r line after
   pub ends : isEnded (r .state .phase) ≡ true → r .on ≡ false
 
--- 0 bytes is the end of the input, and nothing else is. Where the read is to be made again, or failed, nothing is printed, and nothing of the
--- unfinished line is lost or answered
+-- 0 bytes is the end of the input, and nothing else is. Where the read is to be made again, or failed, no text is made, and nothing of the
+-- unfinished line is lost
 abbrev pub Follows : Outcome → Memory → List ℕ → List ℕ → Turn → List ℕ → List ℕ → Type 0
 Follows (Moved zero) m block before r line after = Took m [] (endSays m) before r line after × (r .on ≡ false)
 Follows (Moved (suc n)) m block before r line after = Answers m (take (suc n) block) before r line after
@@ -50,3 +58,10 @@ pub record TakesSome (m : Memory) (block : List ℕ) (s : State) (line : List �
   pub count : ℕ
   pub within : count ≤ length block
   pub takes : Takes m (take count block) s line
+
+-- the last follows from the others
+pub record Turns (m : Memory) (block before : List ℕ) (r : Turn) (line after : List ℕ) : Type 0 where
+  pub got : Outcome
+  pub within : Within got block
+  pub follows : Follows got m block before r line after
+  pub takes : TakesSome m block (r .state) line

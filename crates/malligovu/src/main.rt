@@ -1,13 +1,11 @@
 // The product: standard input to standard output, a read at a time. All that a read answers is written before the next.
 ghost use mathlib.Core.Path.{_≡_};
-ghost use mathlib.Core.Bool.{true, false};
 ghost use Prim.Native.Nat.{_≤_};
 ghost use lib.ListN.{length};
-ghost use Rattle.stream.specs.Awaited.{isEnded};
 ghost use Rattle.stream.specs.Memory.{endSays};
 ghost use Rattle.stream.specs.Stepped.{Ready, memoryOf};
 ghost use Rattle.stdio.specs.Outcome.{Within};
-ghost use Rattle.malligovu.specs.Taken.{Printed, Answers, Follows, TakesSome};
+ghost use Rattle.malligovu.specs.Taken.{Printed, ReadsOn, Answers, Follows, Turns};
 use stdio::Outcome;
 use stream::State;
 
@@ -27,9 +25,9 @@ fn answer_end(state: State, line: &[u8], out: &mut [u8])
     stdio::write_all(&out[..wrote]);
 }
 
-// Whether there is a further read: all was written, and more may have to be.
+// Whether there is a further read: all was written, and the program has not ended.
 fn reads_on(written: bool, state: State) -> bool
-    ensures { λ r. ⌜ (isEnded (state .phase) ≡ true → r ≡ false) ⌝ }
+    ensures { λ r. ⌜ ReadsOn written (state .phase) r ⌝ }
 {
     if stream::ended(state) {
         return false;
@@ -79,7 +77,8 @@ fn take_block(state: State, line: &mut [u8], block: &mut [u8], out: &mut [u8]) -
     requires { ⌜ Ready state (now line) ⌝ }
     requires { ⌜ 4096 ≡ length (now block) ⌝ }
     requires { ⌜ 262144 ≡ length (now out) ⌝ }
-    ensures { λ r. ⌜ TakesSome (memoryOf state (now (line .entry))) (now (block .exit)) (r .state) (now (line .exit)) ⌝ }
+    ensures { λ r. ⌜ Turns (memoryOf state (now (line .entry))) (now (block .exit)) (now (out .entry)) r
+        (now (line .exit)) (now (out .exit)) ⌝ }
 {
     let got = stdio::read(block);
     follow(state, line, block, got, out)

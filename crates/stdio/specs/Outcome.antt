@@ -19,7 +19,7 @@ abbrev pub passes : ℤ → Bool
 passes (pos n) = cond (eqb n 4) true (eqb n 11)
 passes (negsuc n) = false
 
--- "0 bytes is the end of the input, and nothing else is": no failure is a count of 0
+-- a count of bytes, or a failure: no failure is a count of 0, which of a read is the end of the input
 abbrev pub outcomeOf : ℤ → ℤ → ℕ → Outcome
 outcomeOf (pos n) error lent = Moved (min n lent)
 outcomeOf (negsuc n) error lent = cond (passes error) Later Failed

@@ -29,8 +29,9 @@ fn wait() {
     libc::nanosleep(&asked, &mut left);
 }
 
-// What the system's answer to a call means, by errno where it is no count.
-fn outcome_of(got: isize, error: i32, lent: &[u8]) -> Outcome
+// What the system's answer to a call means, by errno where it is no count. A call that was not ready is given time at once, and a failure is
+// said.
+fn outcome_of(got: isize, error: i32, lent: &[u8], name: &[u8]) -> Outcome
     ensures { λ r. ⌜ Means got error (now (lent .entry)) r ⌝ }
 {
     if got >= 0 {
@@ -40,45 +41,30 @@ fn outcome_of(got: isize, error: i32, lent: &[u8]) -> Outcome
         return Outcome::Later;
     }
     if error == EAGAIN {
+        wait();
         return Outcome::Later;
     }
+    os::fail(name);
     Outcome::Failed
 }
 
-// What came of the call just made, and what follows at once: what is not ready is given time, and a failure is said.
-fn came_of(got: isize, lent: &[u8], name: &[u8]) -> Outcome
-    ensures { λ r. ⌜ Within r (now (lent .entry)) ⌝ }
-{
-    let error = os::errno();
-    let outcome = outcome_of(got, error, lent);
-    match outcome {
-        Outcome::Moved(_) => {}
-        Outcome::Later => {
-            if error == EAGAIN {
-                wait();
-            }
-        }
-        Outcome::Failed => {
-            os::fail(name);
-        }
-    }
-    outcome
-}
-
-// One read of standard input. Moved(0) is the end of the input, and nothing else is.
+// One read of standard input. Of a block with room, Moved(0) is the end of the input, and nothing else is.
 pub fn read(block: &mut [u8]) -> Outcome
     ensures { λ r. ⌜ Within r (now (block .exit)) ⌝ }
 {
     let got = libc::read(STDIN_FILENO, block);
-    came_of(got, block, b"malligovu: standard input")
+    outcome_of(got, os::errno(), block, b"malligovu: standard input")
 }
 
-// One write to standard output.
+// One write to standard output. Bytes that are not taken are tried again, a little later.
 fn write(text: &[u8]) -> Outcome
     ensures { λ r. ⌜ Within r (now (text .entry)) ⌝ }
 {
     let put = libc::write(STDOUT_FILENO, text);
-    came_of(put, text, b"malligovu: standard output")
+    if put == 0 {
+        wait();
+    }
+    outcome_of(put, os::errno(), text, b"malligovu: standard output")
 }
 
 // Writes the text to standard output, in as many calls as it takes, and gives back how many bytes were taken: all, unless a call failed.

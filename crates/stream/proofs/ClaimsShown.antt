@@ -6,10 +6,11 @@ use Prim.Native.Nat.{ℕ}
 use Rattle.lines.specs.Header.{headerOf}
 use Rattle.lines.specs.Answer.{goesOn}
 use Rattle.lines.specs.declared.header.Header.{Header}
-use Rattle.stream.specs.Program.{newline}
+use Rattle.stream.specs.Program.{newline, programOutput}
 use Rattle.stream.specs.Awaited.{wordsOrEnd, phaseAfter, lastSays}
 use Rattle.stream.specs.Memory.{Memory, start, blockSays, afterBlock, endSays, blocksSay, saidSoFar}
-use Rattle.stream.specs.Claims.{joined, BlocksDoNotMatter, AnsweredAtOnce, NothingAfterTheEnd, NothingIsGuessed, UnfinishedLinesWait}
+use Rattle.stream.specs.Claims.{joined, NoNewline, BlocksDoNotMatter, AnsweredAtOnce, NothingAfterTheEnd}
+use Rattle.stream.specs.Claims.{NothingIsGuessed, UnfinishedLinesWait}
 use Rattle.stream.specs.declared.phase.Phase.{Phase}
 use Rattle.stream.specs.declared.phase.Phase.the-variants.{First, Words, Ended}
 use Rattle.stream.proofs.StillLaws.{still, still-block, still-end, still-start}
@@ -63,11 +64,16 @@ nothing-is-guessed blocks more = record {
       ∙ sym (still-block start (joined blocks) more) ∙ still-start (joined blocks ++ more);
 }
 
+-- a part of a line says nothing after lines
+part-waits : (lines part : List ℕ) → NoNewline part → blockSays start (lines ++ newline ∷ part) ≡ programOutput (lines ++ newline ∷ [])
+part-waits lines part none =
+    let ended = lines ++ newline ∷ [] in
+    ap (blockSays start) (sym (append-assoc lines (newline ∷ []) part)) ∙ says-append start ended part
+    ∙ ap (λ (l : List ℕ). blockSays start ended ++ l) (says-part (afterBlock start ended) part none)
+    ∙ append-nil (blockSays start ended) ∙ answered-at-once lines
+
 pub unfinished-lines-wait : UnfinishedLinesWait
-unfinished-lines-wait lines part none =
-    let ended = lines ++ newline ∷ [] in (
-      says-part start part none,
-      ap (blockSays start) (sym (append-assoc lines (newline ∷ []) part)) ∙ says-append start ended part
-          ∙ ap (λ (l : List ℕ). blockSays start ended ++ l) (says-part (afterBlock start ended) part none)
-          ∙ append-nil (blockSays start ended) ∙ answered-at-once lines,
-    )
+unfinished-lines-wait blocks part none = (
+  λ e. so-far-joined start blocks ∙ ap (blockSays start) e ∙ says-part start part none,
+  λ lines e. so-far-joined start blocks ∙ ap (blockSays start) e ∙ part-waits lines part none,
+)

@@ -3,7 +3,7 @@
 --   AnsweredAtOnce         with a newline everything is printed that the input so far prints
 --   NothingAfterTheEnd     once the program has ended it prints nothing, so that it need not read on
 --   NothingIsGuessed       whatever was read so far, what is printed is a beginning of what every input that begins so prints
---   UnfinishedLinesWait    and it is the answers to the finished lines: a line that has not ended adds nothing to them
+--   UnfinishedLinesWait    and it is what the finished lines print: of a line that has not ended nothing is printed
 -- Assumes nothing.
 use mathlib.Core.Path.{_≡_}
 use mathlib.Core.List.{List, [], _∷_, _++_}
@@ -40,5 +40,6 @@ abbrev pub NoNewline : List ℕ → Type 0
 NoNewline part = (k : ℕ) → k < length part → getD part k 0 ≡ newline → ⊥
 
 abbrev pub UnfinishedLinesWait : Type 0
-UnfinishedLinesWait = (lines part : List ℕ) → NoNewline part
-    → (blockSays start part ≡ []) × (blockSays start (lines ++ newline ∷ part) ≡ programOutput (lines ++ newline ∷ []))
+UnfinishedLinesWait = (blocks : List (List ℕ)) (part : List ℕ) → NoNewline part
+    → (joined blocks ≡ part → saidSoFar start blocks ≡ [])
+    × ((lines : List ℕ) → joined blocks ≡ lines ++ newline ∷ part → saidSoFar start blocks ≡ programOutput (lines ++ newline ∷ []))

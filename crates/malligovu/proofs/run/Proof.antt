@@ -33,7 +33,7 @@ loop-again : tie.Need-loop-again Inv-loop μ-loop
 loop-again c =
     let i = c .before .before .before .before .before .before .before .before .before .before .before .before .before .loop .inv in
     let t = c .before .before .before .before .before .before .before .take-block in
-    (t .ensures .takes .ready, i .1 ∙ sym (t .kept .1 .1 .0), i .2 ∙ sym (t .kept .1 .1 .1 .0))
+    (t .ensures .takes .takes .ready, i .1 ∙ sym (t .kept .1 .1 .0), i .2 ∙ sym (t .kept .1 .1 .1 .0))
 
 same-length : tie.Need-same-length Inv-loop μ-loop
 same-length c = c .before .before .loop .inv .0 .size ∙ c .before .before .before .before .before .before .before .pre .0

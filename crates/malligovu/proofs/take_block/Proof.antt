@@ -1,10 +1,10 @@
--- `malligovu::take_block` meets its contract: whatever the read brought, what is remembered is the step's over as many bytes.
+-- `malligovu::take_block` meets its contract, by what follows from the outcome of its read.
 -- Assumes nothing.
 use native.Mathlib.Omega.{arith}
 use borrow.Author.Needs.{needs}
 use denote.Ref.{now}
 use Rattle.stream.specs.Stepped.{memoryOf}
-use Rattle.malligovu.proofs.TakenLaws.{takes-some}
+use Rattle.malligovu.proofs.TakenLaws.{turns}
 use Rattle.malligovu.proofs.take_block.Statement.{statement}
 use Rattle.malligovu.proofs.take_block.Tie as tie
 
@@ -31,7 +31,7 @@ returns c =
     let f = c .before .before .before .before in
     let r = f .before .before .before .before .before .before in
     let a = r .before .before .before .before .before in
-    takes-some (memoryOf (a .args .state) (now (a .args .line))) (r .read .last .0) (now (a .args .out)) (f .follow .result)
+    turns (memoryOf (a .args .state) (now (a .args .line))) (r .read .last .0) (now (a .args .out)) (f .follow .result)
     (f .follow .last .1 .0) (f .follow .last .1 .1 .1 .1 .0) (r .read .result) (r .read .ensures) (f .follow .ensures)
 
 pub take-block-spec : {M : Type 1} → statement M
