@@ -1,5 +1,5 @@
--- What a turn of the program's loop does, by what its read brought. Which bytes were read, and that the answers were written, no contract can
--- say: the text to be written stands at the start of the output's memory.
+-- What a turn of the program's loop does, by what its read brought. Which bytes were read, and that the answers were written, no contract
+-- can say: the text to be written stands at the start of the output's memory.
 --   Takes        what is remembered after the turn is the step's, over these bytes
 --   Printed      the text stands in the output's memory
 --   Took         both

@@ -29,8 +29,8 @@ fn wait() {
     libc::nanosleep(&asked, &mut left);
 }
 
-// What the system's answer to a call means, by errno where it is no count. A call that was not ready is given time at once, and a failure is
-// said.
+// What the system's answer to a call means, by errno where it is no count. A call that was not ready is given time at once, and a failure
+// is said.
 fn outcome_of(got: isize, error: i32, lent: &[u8], name: &[u8]) -> Outcome
     ensures { λ r. ⌜ Means got error (now (lent .entry)) r ⌝ }
 {
