@@ -54,6 +54,9 @@ const MANY: Fault = Fault { name: "are interrupted 10,000,000 times", times: 10_
 const TAKES_NOTHING: Fault = Fault { name: "take no byte 3 times", times: 3, error: 0, says: None };
 const NONE: &str = "call 0 0 0 0";
 
+/// Blank lines, two blocks of them: each prints `line`.
+const BLANK: usize = 8192;
+
 /// Most bytes a read brings where every call is to be met: many calls, and lines that lie in two of them.
 const CHUNK: usize = 64;
 
@@ -80,12 +83,12 @@ fn said(stream: &str, what: &str) -> Vec<u8> {
 struct Ran {
     out: Vec<u8>,
     error: Vec<u8>,
-    /// 0, or the signal that ended it
-    signal: i32,
+    /// as wait gives it: 0, or the signal that ended the program, or another exit status above
+    status: i32,
 }
 
 fn ended(out: &[u8], error: Vec<u8>) -> Ran {
-    Ran { out: out.to_vec(), error, signal: 0 }
+    Ran { out: out.to_vec(), error, status: 0 }
 }
 
 /// Starts a command that is ended by a signal after a minute.
@@ -100,7 +103,7 @@ fn collect(mut child: Child) -> Ran {
         stream.read_to_end(&mut out).unwrap();
     }
     child.stderr.take().unwrap().read_to_end(&mut error).unwrap();
-    Ran { out, error, signal: child.wait().unwrap().signal().unwrap_or(0) }
+    Ran { out, error, status: child.wait().unwrap().into_raw() }
 }
 
 static RUNS: AtomicUsize = AtomicUsize::new(0);
@@ -155,7 +158,8 @@ impl Bench {
         bad.into_inner()
     }
 
-    /// Reads, at every byte of the input and at its end. The line that was being read is not answered.
+    /// Reads, at every byte of the input and at its end. The line that was being read is not answered. Where a call ends at the place anyway, a
+    /// short one is no fault.
     fn reads(&self) -> usize {
         let places = self.input.len() + 1;
         let passing = PASSING.iter().map(|fault| {
@@ -182,12 +186,13 @@ impl Bench {
         passing.sum::<usize>() + failing.sum::<usize>()
     }
 
-    /// At every call, of few bytes: reads of at most 64, so that there are as many writes as reads that end a line. After a write that
-    /// fails the output is whole lines, and no read follows it.
+    /// At every call, with reads of at most 64 bytes, so that there is a write for each read that ends a word line, and one at the end. After a
+    /// write that fails the output is whole lines, and no read follows it.
     fn calls(&self) -> usize {
         let reads = self.input.len().div_ceil(CHUNK);
         let end_of = |read: usize| self.input.len().min((read + 1) * CHUNK);
-        let writing: Vec<usize> = (0..reads).filter(|&r| self.answers(end_of(r)) != self.answers(r * CHUNK)).collect();
+        let mut writing: Vec<usize> = (0..reads).filter(|&r| self.answers(end_of(r)) != self.answers(r * CHUNK)).collect();
+        writing.push(reads);
         let limited = SHORT.at_call(0, CHUNK);
         let mut bad = self.each("reads of 1 to 64 bytes", CHUNK, |most| self.is_whole(self.run(&SHORT.at_call(0, most + 1), NONE)));
         bad += self.each("writes of 1 to 64 bytes", CHUNK, |most| self.is_whole(self.run(NONE, &SHORT.at_call(0, most + 1))));
@@ -203,7 +208,7 @@ impl Bench {
                 self.run(&fault.at_call(at, CHUNK), NONE) == (ended(self.answers(read), fault.said("input")), read)
             });
             bad += self.each(&format!("writes {}, at each call", fault.name), writing.len(), |at| {
-                let right = ended(self.answers(writing[at] * CHUNK), fault.said("output"));
+                let right = ended(self.answers(self.input.len().min(writing[at] * CHUNK)), fault.said("output"));
                 self.run(&limited, &fault.at_call(at, 0)) == (right, end_of(writing[at]))
             });
         }
@@ -219,13 +224,15 @@ impl Bench {
         start(Command::new(&self.program).stdin(OwnedFd::from(input)).stdout(OwnedFd::from(output)))
     }
 
-    /// Pipes with slow other ends, blocking or not: the words many times over, so that both pipes fill and run dry.
+    /// Pipes with slow other ends, blocking or not: blank lines first, so that a read answers more than a pipe holds, and the words many times
+    /// over, so that both pipes fill and run dry.
     fn slow_pipes(&self) -> usize {
         let header = self.input.iter().position(|&b| b == b'\n').unwrap() + 1;
-        let (mut input, mut output) = (self.input.clone(), self.output.clone());
+        let (mut input, mut output) = (self.input[..header].to_vec(), b"line\n".repeat(BLANK));
+        input.extend(vec![b'\n'; BLANK]);
         for _ in 0..20 {
-            input.push(b'\n');
             input.extend(&self.input[header..]);
+            input.push(b'\n');
             output.extend(&self.output);
         }
         let mut bad = 0;
@@ -287,13 +294,17 @@ impl Bench {
             drop(reader);
             collect(start(Command::new("sh").arg("-c").arg(command).arg(&self.program).arg(&self.path).stdout(OwnedFd::from(writer))))
         };
-        self.check("a reader that went away", with("exec \"$0\" <\"$1\"") == Ran { out: Vec::new(), error: Vec::new(), signal: PIPE_SIGNAL })
+        self.check("a reader that went away", with("exec \"$0\" <\"$1\"") == Ran { out: Vec::new(), error: Vec::new(), status: PIPE_SIGNAL })
             + self.check("the same, the signal ignored", with("trap '' PIPE; exec \"$0\" <\"$1\"") == ended(&[], said("output", "Broken pipe")))
     }
 
     fn closed(&self) -> usize {
         let fails = |command: &str, stream: &str, what: &str| self.shell(command) == ended(&[], said(stream, what));
         self.check("no fault", self.shell("exec \"$0\" <\"$1\"") == ended(&self.output, Vec::new()))
+            + self.check("a refused header", self.shell("printf '9 9 9\\n1 2\\n' | exec \"$0\"") == ended(b"refused 1\n", Vec::new()))
+            + self.check("a wrong header", self.shell("printf '4 1 0 -1\\n1 2\\n' | exec \"$0\"") == ended(b"header\n", Vec::new()))
+            + self.check("no header", self.shell("exec \"$0\" </dev/null") == ended(b"header\n", Vec::new()))
+            + self.check("a wrong header, a full device", fails("printf '4 1 0 -1\\n1 2\\n' | exec \"$0\" >/dev/full", "output", SPACE))
             + self.check("a full device", fails("exec \"$0\" <\"$1\" >/dev/full", "output", SPACE))
             + self.check("standard output closed", fails("exec \"$0\" <\"$1\" >&-", "output", "Bad file descriptor"))
             + self.check("standard input closed", fails("exec \"$0\" <&-", "input", "Bad file descriptor"))

@@ -9,7 +9,7 @@ use libc::STDIN_FILENO;
 use libc::STDOUT_FILENO;
 use libc::types::timespec;
 
-// What came of a call: it moved so many bytes; or it moved none and is to be made again; or it failed, and standard error says how.
+// What came of a call: it moved so many bytes; or it was interrupted or not ready; or it failed, and standard error says how.
 pub enum Outcome {
     Moved(usize),
     Later,
@@ -56,7 +56,7 @@ pub fn read(block: &mut [u8]) -> Outcome
     outcome_of(got, os::errno(), block, b"malligovu: standard input")
 }
 
-// One write to standard output. Bytes that are not taken are tried again, a little later.
+// One write to standard output. One that takes no byte is given time, as one that was not ready.
 fn write(text: &[u8]) -> Outcome
     ensures { λ r. ⌜ Within r (now (text .entry)) ⌝ }
 {

@@ -8,9 +8,9 @@ use Rattle.lines.specs.Answer.{goesOn}
 use Rattle.lines.specs.declared.header.Header.{Header}
 use Rattle.stream.specs.Program.{newline, programOutput}
 use Rattle.stream.specs.Awaited.{wordsOrEnd, phaseAfter, lastSays}
-use Rattle.stream.specs.Memory.{Memory, start, blockSays, afterBlock, endSays, blocksSay, saidSoFar}
+use Rattle.stream.specs.Memory.{Memory, start, blockSays, afterBlock, endSays, blocksSay}
 use Rattle.stream.specs.Claims.{joined, NoNewline, BlocksDoNotMatter, AnsweredAtOnce, NothingAfterTheEnd}
-use Rattle.stream.specs.Claims.{NothingIsGuessed, UnfinishedLinesWait}
+use Rattle.stream.specs.Claims.{saidSoFar, NothingIsGuessed, UnfinishedLinesWait}
 use Rattle.stream.specs.declared.phase.Phase.{Phase}
 use Rattle.stream.specs.declared.phase.Phase.the-variants.{First, Words, Ended}
 use Rattle.stream.proofs.StillLaws.{still, still-block, still-end, still-start}

@@ -10,7 +10,7 @@ use mathlib.Core.List.{List, [], _∷_, _++_}
 use Prim.Native.Nat.{ℕ, _<_}
 use lib.ListN.{length, getD}
 use Rattle.stream.specs.Program.{newline, programOutput}
-use Rattle.stream.specs.Memory.{start, blockSays, blocksSay, saidSoFar}
+use Rattle.stream.specs.Memory.{Memory, start, blockSays, afterBlock, blocksSay}
 use Rattle.stream.specs.declared.phase.Phase.the-variants.{Ended}
 
 abbrev pub joined : List (List ℕ) → List ℕ
@@ -25,6 +25,11 @@ AnsweredAtOnce = (input : List ℕ) → blockSays start (input ++ newline ∷ []
 
 abbrev pub NothingAfterTheEnd : Type 0
 NothingAfterTheEnd = (text : List ℕ) (blocks : List (List ℕ)) → blocksSay (record { phase = Ended; text = text }) blocks ≡ []
+
+-- what is printed once these blocks have come, before anything is known of what follows
+unfoldable pub saidSoFar : Memory → List (List ℕ) → List ℕ
+saidSoFar m [] = []
+saidSoFar m (block ∷ blocks) = blockSays m block ++ saidSoFar (afterBlock m block) blocks
 
 -- the one text begins the other
 pub record BeginningOf (part whole : List ℕ) : Type 0 where

@@ -6,7 +6,6 @@
 --   afterBlock    what is remembered after it
 --   endSays       what the end of the input prints
 --   blocksSay     what is printed where the input comes in these blocks and then ends
---   saidSoFar     what is printed once these blocks have come, before anything is known of what follows
 -- Assumes nothing.
 use mathlib.Core.Bool.{Bool, true, false}
 use mathlib.Core.List.{List, [], _∷_, _++_}
@@ -57,7 +56,3 @@ endSays m = lastSays (m .phase) (m .text)
 unfoldable pub blocksSay : Memory → List (List ℕ) → List ℕ
 blocksSay m [] = endSays m
 blocksSay m (block ∷ blocks) = blockSays m block ++ blocksSay (afterBlock m block) blocks
-
-unfoldable pub saidSoFar : Memory → List (List ℕ) → List ℕ
-saidSoFar m [] = []
-saidSoFar m (block ∷ blocks) = blockSays m block ++ saidSoFar (afterBlock m block) blocks
