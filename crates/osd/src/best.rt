@@ -12,13 +12,13 @@ pub struct Candidate {
     pub flips: u8,
 }
 
-// The best candidate so far, if one is found, and how many were seen.
+// The best candidate so far, if one is found, and how many were seen. The widest come first, so that there is no gap to copy.
 pub struct Best {
-    pub found: bool,
     pub word: u64,
+    pub count: u32,
     pub distance: u16,
     pub flips: u8,
-    pub count: u32,
+    pub found: bool,
 }
 
 impl Best {

@@ -1,17 +1,16 @@
 // What one pattern of flipped ranks makes: its symbols outside the reliable set, and the candidate if all are 0 or 1.
 use crate::best::Best;
 use crate::best::Candidate;
-use crate::flips::Flips;
 use prepare::Prepared;
 use ranks::Rank;
 ghost use mathlib.Core.Path.{_≡_};
 ghost use Prim.Native.Nat.{_+_, _^_, _<_};
 ghost use Rattle.frame.specs.Packing.{unpacked};
+ghost use Rattle.search.specs.Best.{better};
 ghost use Rattle.search.specs.Plan.{Fits};
 ghost use Rattle.search.specs.ByRank.{rankWeighed, tried};
 ghost use Rattle.prepare.specs.PlanOf.{planOf};
 ghost use Rattle.osd.specs.As.{asBest, asWeighed};
-ghost use Rattle.osd.specs.Inner.Parts.{Made};
 
 // The hard decisions as a word.
 fn word_of(hards: [u8; 8]) -> u64
@@ -49,8 +48,7 @@ fn placed(p: Prepared, ranks: u64, distance: u16) -> Candidate
     while g != 0 {
         let lowest = u64::trailing_zeros(g) as u8;
         let rank = Rank(lowest);
-        let i = rank.0 as usize;
-        let position = order[i];
+        let position = ranks::position_at(order, rank);
         word = word ^ (1u64 << position.0);
         flips = flips + 1;
         g = g & (g - 1);
@@ -60,6 +58,18 @@ fn placed(p: Prepared, ranks: u64, distance: u16) -> Candidate
         distance,
         flips,
     }
+}
+
+// The best with one more candidate seen, the word that differs from the hard decisions at these ranks.
+fn candidate(p: Prepared, ranks: u64, best: Best) -> Best
+    requires { ⌜ Fits (planOf p) × (ranks < 2 ^ (p .size + p .rows)) × (best .count < 100000) ⌝ }
+    ensures { λ r. ⌜ asBest r ≡ better (asBest best) (rankWeighed (planOf p) ranks) ⌝ }
+{
+    let distance = weigh(p, ranks);
+    if best.nearer(distance) {
+        return best.counting();
+    }
+    best.with(placed(p, ranks, distance))
 }
 
 // The best with one more pattern seen, that in which the ranks of `flips` are flipped: it is dropped at its first symbol
@@ -75,13 +85,16 @@ pub fn pattern<'a>(p: Prepared, symbols: &'a [u8; 378], flips: u64, best: Best) 
     'outside: while q < rows {
         let mut symbol = base[q];
         let mut g = flips;
-        while g != 0 {
+        loop {
+            if g == 0 {
+                if 1 < symbol {
+                    break 'outside;
+                }
+                break;
+            }
             let rank = u64::trailing_zeros(g) as usize;
             symbol = symbol ^ symbols[q * 63 + rank];
             g = g & (g - 1);
-        }
-        if 1 < symbol {
-            break 'outside;
         }
         bits = bits ^ ((symbol as u64) << q);
         q += 1;
@@ -90,21 +103,5 @@ pub fn pattern<'a>(p: Prepared, symbols: &'a [u8; 378], flips: u64, best: Best) 
         return best;
     }
     let size = p.size;
-    let ranks = flips ^ ((bits ^ p.sides as u64) << size);
-    let distance = weigh(p, ranks);
-    if best.nearer(distance) {
-        return best.counting();
-    }
-    best.with(placed(p, ranks, distance))
-}
-
-// The same, where the pattern's non-binary part is known: with one other than 0 the pattern is dropped, and is not entered.
-pub fn offered<'a>(p: Prepared, symbols: &'a [u8; 378], flips: Flips, best: Best) -> Best
-    requires { ⌜ Fits (planOf p) × (now symbols ≡ p .symbols) × Made p flips × (best .count < 100000) ⌝ }
-    ensures { λ r. ⌜ asBest r ≡ tried (planOf p) (flips .ranks) (asBest best) ⌝ }
-{
-    if flips.part != 0 {
-        return best;
-    }
-    pattern(p, symbols, flips.ranks, best)
+    candidate(p, flips ^ ((bits ^ p.sides as u64) << size), best)
 }

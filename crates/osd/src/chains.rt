@@ -1,10 +1,8 @@
 // The ranks in chains, each with the ranks whose columns' parts have one slot: the last flip is looked up by its part, and a flip that
-// leads nowhere is told without a walk over the ranks after it.
+// leads nowhere is told without a walk over the ranks after it. A slot is ten bits of the part, so what is looked up may yet be dropped.
 ghost use mathlib.Core.Path.{_≡_};
-ghost use Prim.Native.Nat.{ℕ, _+_, _≤_, _<_};
-ghost use lib.ListN.{getD};
-ghost use Rattle.field.specs.Field.{_⊕_};
-ghost use Rattle.osd.specs.Inner.Chains.{slotOf, Chained, Shut};
+ghost use Prim.Native.Nat.{_≤_, _<_};
+ghost use Rattle.osd.specs.Inner.Chains.{slotOf, Chained, At, Next};
 use ranks::Rank;
 
 // Where the chains have the slot of a part.
@@ -31,22 +29,32 @@ pub fn chain(parts: &[u16; 64], size: usize) -> [u8; 1088]
     chains
 }
 
-// With two flips left: the ranks from `to` down to `from` are passed over as far as their flips lead nowhere. With more left, none is.
-pub fn run_on<'a>(
+// Which rank is flipped next, of those from `from` on and before `to`, the last one first: one more than it, `from` where there is none.
+// With one flip left it is looked up in the chains, which have it at `at`; with two it is the next whose flip may lead to a candidate;
+// with more it is the next one.
+pub fn next_flip<'a>(
     parts: &'a [u16; 64],
     chains: &'a [u8; 1088],
     part: u16,
     from: Rank,
     to: Rank,
+    at: usize,
     may: u8,
 ) -> Rank
-    requires { ⌜ (from .0 ≤ to .0) × (to .0 ≤ 64) ⌝ }
-    ensures { λ r. ⌜ (from .0 ≤ r .0) × (r .0 ≤ to .0) × ((i : ℕ) → r .0 ≤ i → i < to .0 → (may ≤ 2) × Shut (now (chains .entry)) (i + 1) (part ⊕ getD (now (parts .entry)) i 0)) ⌝ }
+    requires { ⌜ (from .0 ≤ to .0) × (to .0 ≤ 64) × (at < 1088) × At (now parts) (now chains) part (to .0) at may ⌝ }
+    ensures { λ r. ⌜ Next (now (parts .entry)) (now (chains .entry)) part (from .0) (to .0) may (r .0) ⌝ }
 {
+    let first = from.0;
+    if may == 1 {
+        let linked = chains[at];
+        if first < linked {
+            return Rank(linked);
+        }
+        return from;
+    }
     if 2 < may {
         return to;
     }
-    let first = from.0;
     let mut j = to.0;
     while first < j {
         let after = part ^ parts[(j - 1) as usize];

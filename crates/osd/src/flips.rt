@@ -1,4 +1,5 @@
 // The flips that are made on the way to a pattern.
+use ranks::Rank;
 ghost use mathlib.Core.Path.{_≡_};
 ghost use Prim.Native.Nat.{_^_, _<_};
 ghost use Rattle.field.specs.Field.{_⊕_};
@@ -10,12 +11,12 @@ pub struct Flips {
 }
 
 impl Flips {
-    // One flip more, of rank r, whose column has this part.
-    pub fn with(self, r: u8, part: u16) -> Flips
-        requires { ⌜ r < 64 ⌝ }
-        ensures { λ f. ⌜ (f .ranks ≡ self .ranks ⊕ 2 ^ r) × (f .part ≡ self .part ⊕ part) ⌝ }
+    // One flip more, of this rank, whose column has this part.
+    pub fn with(self, rank: Rank, part: u16) -> Flips
+        requires { ⌜ rank .0 < 64 ⌝ }
+        ensures { λ f. ⌜ (f .ranks ≡ self .ranks ⊕ 2 ^ rank .0) × (f .part ≡ self .part ⊕ part) ⌝ }
     {
-        let bit = 1u64 << r;
+        let bit = 1u64 << rank.0;
         Flips {
             ranks: self.ranks ^ bit,
             part: self.part ^ part,

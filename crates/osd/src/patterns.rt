@@ -1,9 +1,8 @@
 // All patterns with few flips: each reliable rank, from rank 0 on, is either kept or flipped.
 use crate::best::Best;
-use crate::candidates::offered;
 use crate::candidates::pattern;
 use crate::chains::chain;
-use crate::chains::run_on;
+use crate::chains::next_flip;
 use crate::chains::slot;
 use crate::flips::Flips;
 use crate::parts::base_part;
@@ -21,35 +20,20 @@ ghost use Rattle.osd.specs.As.{asBest};
 ghost use Rattle.osd.specs.Inner.Parts.{Made};
 ghost use Rattle.osd.specs.Inner.Chains.{Tabled};
 
-// The best over the patterns of the ranks from `rank` on with at most one flip among them, after the flips that are made. The flip is
-// looked up by its column's part, from the last rank back.
-fn last_flips<'a>(
-    p: Prepared,
-    rank: Rank,
-    flips: Flips,
-    best: Best,
-    symbols: &'a [u8; 378],
-    parts: &'a [u16; 64],
-    chains: &'a [u8; 1088],
-) -> Best
-    requires { ⌜ Fits (planOf p) × Tabled p (now symbols) (now parts) (now chains) × Made p flips ⌝ }
-    requires { ⌜ (rank .0 ≤ p .size) × (best .count + patterns (p .size - rank .0) 1 ≤ 100000) ⌝ }
-    ensures { λ r. ⌜ asBest r ≡ bestOver (λ i. i) (tried (planOf p)) (p .size - rank .0) (rank .0) 1 (flips .ranks) (asBest best) ⌝ }
+// How many ranks are linked in the chains: none where no flip is allowed.
+fn linked(size: u8, order: u8) -> usize
+    ensures { λ r. ⌜ (r ≤ size) × ((order ≡ 0 → ⊥) → r ≡ size) ⌝ }
 {
-    let from = rank.0;
-    let mut b = offered(p, symbols, flips, best);
-    let mut j = chains[slot(flips.part)];
-    while from < j {
-        let r = j - 1;
-        let i = r as usize;
-        b = offered(p, symbols, flips.with(r, parts[i]), b);
-        j = chains[i];
+    if order == 0 {
+        return 0;
     }
-    b
+    size as usize
 }
 
-// The same with at most `may` flips, two or more. The pattern with all of the ranks kept comes first; then each rank, from the last one
-// back, whose flip may lead to a candidate is flipped.
+// The best over the patterns of the ranks from `rank` on with at most `may` flips among them, after the flips that are made. The
+// definition keeps each rank before it flips it, from `rank` on: so it comes first to the pattern that keeps them all, then to those whose
+// first flip is the last rank, then to those whose first flip is the rank before that. The same here: the pattern with all of them kept,
+// then `flip` for the first flips from the last rank back, but for those that lead to no candidate.
 fn keep<'a>(
     p: Prepared,
     rank: Rank,
@@ -60,23 +44,28 @@ fn keep<'a>(
     parts: &'a [u16; 64],
     chains: &'a [u8; 1088],
 ) -> Best
-    requires { ⌜ Fits (planOf p) × Tabled p (now symbols) (now parts) (now chains) × Made p flips ⌝ }
-    requires { ⌜ (rank .0 ≤ p .size) × (1 < may) × (best .count + patterns (p .size - rank .0) may ≤ 100000) ⌝ }
+    requires { ⌜ Fits (planOf p) × (now symbols ≡ p .symbols) × Made p flips × (0 < may → Tabled p (now parts) (now chains)) ⌝ }
+    requires { ⌜ (rank .0 ≤ p .size) × (best .count + patterns (p .size - rank .0) may ≤ 100000) ⌝ }
     ensures { λ r. ⌜ asBest r ≡ bestOver (λ i. i) (tried (planOf p)) (p .size - rank .0) (rank .0) may (flips .ranks) (asBest best) ⌝ }
 {
-    let from = rank.0;
+    // With no flip left the pattern is all. It is called here too, since a function that is called in one place alone is compiled into
+    // its caller, and keep would copy what pattern reads of the prepared word at each entry.
+    if may == 0 {
+        return pattern(p, symbols, flips.ranks, best);
+    }
+    let part = flips.part;
     let size = p.size;
-    let mut b = offered(p, symbols, flips, best);
-    let mut j = run_on(parts, chains, flips.part, rank, Rank(size), may).0;
-    while from < j {
-        let r = j - 1;
-        b = flip(p, Rank(r), may, flips, b, symbols, parts, chains);
-        j = run_on(parts, chains, flips.part, rank, Rank(r), may).0;
+    let mut b = pattern(p, symbols, flips.ranks, best);
+    let mut end = next_flip(parts, chains, part, rank, Rank(size), slot(part), may);
+    while rank.0 < end.0 {
+        let last = Rank(end.0 - 1);
+        b = flip(p, last, may, flips, b, symbols, parts, chains);
+        end = next_flip(parts, chains, part, rank, last, last.0 as usize, may);
     }
     b
 }
 
-// The same, over the patterns in which `rank` itself is flipped.
+// The same, over the patterns in which `rank` itself is flipped: one flip is used up.
 fn flip<'a>(
     p: Prepared,
     rank: Rank,
@@ -87,51 +76,32 @@ fn flip<'a>(
     parts: &'a [u16; 64],
     chains: &'a [u8; 1088],
 ) -> Best
-    requires { ⌜ Fits (planOf p) × Tabled p (now symbols) (now parts) (now chains) × Made p flips ⌝ }
-    requires { ⌜ (rank .0 < p .size) × (1 < may) × (best .count + patterns (p .size - (rank .0 + 1)) (may - 1) ≤ 100000) ⌝ }
+    requires { ⌜ Fits (planOf p) × (now symbols ≡ p .symbols) × Made p flips × Tabled p (now parts) (now chains) ⌝ }
+    requires { ⌜ (rank .0 < p .size) × (0 < may) × (best .count + patterns (p .size - (rank .0 + 1)) (may - 1) ≤ 100000) ⌝ }
     ensures { λ r. ⌜ asBest r ≡ bestOver (λ i. i) (tried (planOf p)) (p .size - (rank .0 + 1)) (rank .0 + 1) (may - 1) (flips .ranks ⊕ 2 ^ rank .0) (asBest best) ⌝ }
 {
-    let r = rank.0;
-    let i = r as usize;
-    let made = flips.with(r, parts[i]);
-    let next = Rank(r + 1);
-    if may == 2 {
-        return last_flips(p, next, made, best, symbols, parts, chains);
-    }
+    let i = rank.0 as usize;
+    let made = flips.with(rank, parts[i]);
+    let next = Rank(rank.0 + 1);
     keep(p, next, may - 1, made, best, symbols, parts, chains)
 }
 
-// The best over all patterns of the reliable ranks with at most `order` flips. What is lent is built once, where a flip is allowed.
+// The best over all patterns of the reliable ranks with at most `order` flips. What is lent is built once.
 pub fn search(p: Prepared, order: u8) -> Best
     requires { ⌜ Fits (planOf p) × (order ≤ 3) ⌝ }
     ensures { λ r. ⌜ asBest r ≡ rankSearched (planOf p) order ⌝ }
 {
     let symbols = p.symbols;
-    if order == 0 {
-        return pattern(p, &symbols, 0, Best::none());
-    }
     let told = (p.rows / 2) as usize;
     let parts = parts_of(&symbols, told);
-    let chains = chain(&parts, p.size as usize);
+    let chains = chain(&parts, linked(p.size, order));
     let base = p.base;
     let part = base_part(base, told);
-    let unflipped = Flips { ranks: 0, part };
-    if order == 1 {
-        return last_flips(
-            p,
-            Rank(0),
-            unflipped,
-            Best::none(),
-            &symbols,
-            &parts,
-            &chains,
-        );
-    }
     keep(
         p,
         Rank(0),
         order,
-        unflipped,
+        Flips { ranks: 0, part },
         Best::none(),
         &symbols,
         &parts,

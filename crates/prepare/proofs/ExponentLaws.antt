@@ -6,7 +6,6 @@ use mathlib.Core.List.{List}
 use Prim.Native.Nat.{ℕ, zero, suc, _+_, _-_, _*_, _/_, _%_, _<_, _≤_}
 use native.Mathlib.Nat.{mod-add-div, mod-lt}
 use native.Mathlib.Omega.{arith}
-use lib.ListN.{getD}
 use Rattle.field.specs.Field.{_⊕_, times, alphaTo, lengthOf}
 use Rattle.field.specs.Laws.{Laws}
 use Rattle.field.proofs.XorLaws.{xor-self, xor-comm}
@@ -57,17 +56,17 @@ module _ (m : ℕ) (F : Laws m) where
       let e : n - q + q ≡ n = omega arith in
       ap (λ (u : ℕ). orOne (1 ⊕ u)) (ap (alphaTo m) e ∙ pw-n) ∙ ap orOne (xor-self 1)
 
-  module _ (size rows : ℕ) (zech places : List ℕ) (rule : Zech m zech) (each : Places m n (λ i. getD places i 0)) (all : size + rows ≡ n)
+  module _ (size rows : ℕ) (zech : List ℕ) (place : ℕ → ℕ) (rule : Zech m zech) (each : Places m n place) (all : size + rows ≡ n)
       (short : n ≤ 63) where
     abbrev U : ℕ → ℕ
-    U = outsideOf size places
+    U = outsideOf size place
 
     -- 1 + a^(p-u) for the place u of row v, but where that is 0
     abbrev B : ℕ → ℕ → ℕ
-    B p v = alphaTo m (zechAt n size zech places v p)
+    B p v = alphaTo m (zechAt n size zech place v p)
 
     abbrev E : ℕ → ℕ → ℕ
-    E = exponentOf n size zech places
+    E = exponentOf n size zech place
 
     inside : (v : ℕ) → v < rows → U v < n
     inside v l = each .inside (size + v) (omega arith)
@@ -82,21 +81,22 @@ module _ (m : ℕ) (F : Laws m) where
     unfolding exponentOf grown
     exponent-grown zero p = ap (alphaTo m) (omega arith)
     exponent-grown (suc k) p =
-        pw-reduced (E k p + zechAt n size zech places k p) ∙ pw-add (E k p) (zechAt n size zech places k p)
+        pw-reduced (E k p + zechAt n size zech place k p) ∙ pw-add (E k p) (zechAt n size zech place k p)
         ∙ ap (λ (u : ℕ). times m u (B p k)) (exponent-grown k p)
 
     -- the exponent of a cell: a difference that n keeps from going below 0
     pub cell-power : (o p : ℕ) → o < rows → p < n → ((v : ℕ) → v < rows → v ≢ o → p ≢ U v)
-        → alphaTo m (cellExponent n size zech places rows o p) ≡ shortCell m 1 rows U o p
+        → alphaTo m (cellExponent n size zech place rows o p) ≡ shortCell m 1 rows U o p
     unfolding cellExponent
     cell-power o p ho hp other =
         let own = E rows (U o) in
-        let z = zechAt n size zech places o p in
+        let z = zechAt n size zech place o p in
         let y = (own + z) % n in
         let w = E rows p + n - y in
         let low : y < n = mod-lt (own + z) n-pos in
         let back : w + y ≡ E rows p + n = omega arith in
-        sym (short-quotient m F 1 rows U outside B (λ p v. (pw-lt m F (zechAt n size zech places v p), pw-pos m F (zechAt n size zech places v p)))
+        sym (short-quotient m F 1 rows U outside B
+        (λ p v. (pw-lt m F (zechAt n size zech place v p), pw-pos m F (zechAt n size zech place v p)))
         (λ o l. zech-is (U o) o (inside o l) l ∙ one-more-none (U o) (omega (arith, inside o l)))
         (λ p v hp hv ne. sum-of-powers p (U v) hp (inside v hv) ne ∙ ap (times m (alphaTo m (U v))) (sym (zech-is p v hp hv)))
         o ho p (alphaTo m w) hp other (pw-lt m F w)

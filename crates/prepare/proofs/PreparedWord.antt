@@ -1,19 +1,18 @@
 -- A word that is made of its parts is prepared, and its numbers are in their ranges. Assumes nothing.
 use mathlib.Core.Path.{_≡_, refl, sym, ap, ap₂, subst, _∙_}
 use mathlib.Core.List.{List}
-use Prim.Native.Nat.{ℕ, zero, suc, _+_, _-_, _*_, _/_, _^_, _<_, _≤_}
+use Prim.Native.Nat.{ℕ, _+_, _-_, _*_, _/_, _^_, _<_, _≤_}
 use native.Mathlib.Nat.{le-refl}
-use native.Mathlib.Decide.{ℕ-discrete}
 use native.Mathlib.Omega.{arith}
 use lib.IntN.{ℤ}
 use lib.ListN.{length, getD}
-use Rattle.field.specs.Field.{times, inverseOf, alphaTo, lengthOf}
+use Rattle.field.specs.Field.{lengthOf}
 use Rattle.field.specs.Laws.{Laws}
 use Rattle.field.proofs.FieldLaws.{laws}
 use Rattle.codes.proofs.ShapeLaws.{length-small, roots-fit}
 use Rattle.codes.specs.Word.{bitOf, wordOf}
 use Rattle.codes.specs.Code.{Known}
-use Rattle.codes.specs.Lagrange.{Places, unless, others, productOver, cell, spread, shortCell}
+use Rattle.codes.specs.Lagrange.{Places, cell}
 use Rattle.codes.proofs.WordLaws.{bit-lt, bit-word, word-lt}
 use Rattle.codes.proofs.ShortForm.{cell-is-short}
 use Rattle.codes.proofs.WordSteps.{word-cong}
@@ -32,35 +31,16 @@ use Rattle.prepare.specs.declared.Prepared.{Prepared}
 use Rattle.prepare.specs.PlanOf.{planOf}
 use Rattle.prepare.specs.declared.by_rank.ByRank.{ByRank}
 use Rattle.prepare.specs.Inner.ByRank.{Gathers, ranked}
-use Rattle.prepare.specs.Inner.Exponents.{outsideOf}
 use Rattle.prepare.specs.Inner.Table.{Cells, RowSums, rowSum}
 use Rattle.prepare.proofs.RankLaws.{word-above}
 use Rattle.prepare.proofs.RowSumLaws.{symbol-is}
 
--- a cell depends on the places outside alone, and on its own
-others-cong : (X Y : ℕ → ℕ) (k o : ℕ) → ((v : ℕ) → v < k → X v ≡ Y v) → others X k o ≡ others Y k o
-unfolding others
-others-cong X Y zero o h = refl
-others-cong X Y (suc k) o h = ap₂ (unless (ℕ-discrete k o)) (h k (le-refl (suc k))) (others-cong X Y k o (λ v l. h v (omega arith)))
-
-short-cong : (m b r : ℕ) (U W : ℕ → ℕ) (o p q : ℕ) → o < r → ((v : ℕ) → v < r → U v ≡ W v) → p ≡ q → shortCell m b r U o p ≡ shortCell m b r W o q
-unfolding shortCell spread
-short-cong m b r U W o p q ho h e =
-    let same = others-cong (λ v. alphaTo m (U v)) (λ v. alphaTo m (W v)) r o (λ v l. ap (alphaTo m) (h v l)) in
-    let at : (x : ℕ) → List ℕ → ℕ = λ x vs. productOver m (alphaTo m x) (alphaTo m (x * b)) vs in
-    ap₂ (λ (x y : ℕ). times m x (inverseOf m y)) (ap₂ at e same) (ap₂ at (h o ho) same)
-
--- the positions by rank, as they are gathered, are all positions, each once
+-- the positions by rank are all positions, each once
 pub places-each : (m n : ℕ) → 4 ≤ m → m ≤ 6 → n ≡ lengthOf m → (soft : List ℤ) (r : Received) → Receives soft r → (order : List Position)
-    → Ordered (r .reliability) n order → (b : ByRank) → Gathers n (r .reliability) (r .hards) order b → Places m n (λ i. getD (b .places) i 0)
-places-each m n a c long soft r got order o b g =
+    → Ordered (r .reliability) n order → Places m n (placeIn order)
+places-each m n a c long soft r got order o =
     let small : n ≤ 63 = omega (arith, length-small m a c) in
-    let all = sorted-order m soft r order got n long small o .order .places in
-    let at : (i : ℕ) → i < n → i < lengthOf m = λ i l. omega arith in
-    record {
-      inside = λ i l. omega (arith, g .places i l, o .inside i l);
-      apart = λ i j hi hj e. all .apart i j (at i hi) (at j hj) (sym (g .places i hi) ∙ e ∙ g .places j hj);
-    }
+    subst (λ (u : ℕ). Places m u (placeIn order)) (sym long) (sorted-order m soft r order got n long small o .order .places)
 
 -- the parts, as the inner functions make them: what is by rank is made on the way
 pub record Parts (m t n : ℕ) (r : Received) (b : ByRank) (p : Prepared) : Type 0 where
@@ -71,7 +51,7 @@ pub record Parts (m t n : ℕ) (r : Received) (b : ByRank) (p : Prepared) : Type
   pub ranks : Gathers n (r .reliability) (r .hards) (p .order) b
   pub weight : p .weight ≡ b .weight
   pub sides : p .sides ≡ b .bits / 2 ^ p .size
-  pub symbols : Cells m (p .size) (p .rows) (b .places) (p .symbols)
+  pub symbols : Cells m (p .size) (p .rows) (placeIn (p .order)) (p .symbols)
   pub base : RowSums (p .symbols) (b .bits) (p .size) (p .base)
 
 module _ (m t : ℕ) (known : Known m t) (n : ℕ) (long : n ≡ lengthOf m) (soft : List ℤ) (short : length soft ≤ lengthOf m)
@@ -123,18 +103,12 @@ module _ (m t : ℕ) (known : Known m t) (n : ℕ) (long : n ≡ lengthOf m) (so
       ∙ word-above K (2 * t) (λ i. bitOf (r .hards) (R i)) (λ i _. bit-lt (r .hards) (R i))
       ∙ word-cong (2 * t) (λ q. bitOf (r .hards) (R (K + q))) (λ q. hard soft (R (K + q))) (λ q l. hard-at (K + q) (omega (arith, fit)))
 
-  place-at : (i : ℕ) → i < L → getD (b .places) i 0 ≡ R i
-  place-at = made .ranks .places
-
   cell-at : (q j : ℕ) → q < 2 * t → j < K → getD (p .symbols) (q * 63 + j) 0 ≡ cell m (1 - 1) R K j (R (K + q))
   cell-at q j hq hj =
-      let cells : Cells m K (2 * t) (b .places) (p .symbols) =
-      subst (λ (u : ℕ). Cells m K u (b .places) (p .symbols)) (made .rows)
-      (subst (λ (u : ℕ). Cells m u (p .rows) (b .places) (p .symbols)) (made .size) (made .symbols)) in
-      cells q j hq hj
-      ∙ short-cong m 1 (2 * t) (outsideOf K (b .places)) (λ v. R (K + v)) q (getD (b .places) j 0) (R j) hq
-      (λ v l. place-at (K + v) (omega (arith, fit))) (place-at j (omega arith))
-      ∙ sym (cell-is-short m F 1 (2 * t) (le-refl 1) R (sorted .order) fit j q hj hq)
+      let cells : Cells m K (2 * t) R (p .symbols) =
+      subst (λ (u : ℕ). Cells m K u R (p .symbols)) (made .rows)
+      (subst (λ (u : ℕ). Cells m u (p .rows) R (p .symbols)) (made .size) (made .symbols)) in
+      cells q j hq hj ∙ sym (cell-is-short m F 1 (2 * t) (le-refl 1) R (sorted .order) fit j q hj hq)
 
   weight-at : (i : ℕ) → i < L → getD (p .weight) i 0 ≡ getD (r .reliability) (R i) 0
   weight-at i l = ap (λ (u : List ℕ). getD u i 0) (made .weight) ∙ made .ranks .weight i l

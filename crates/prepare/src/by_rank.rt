@@ -3,9 +3,8 @@ ghost use Prim.Native.Nat.{_≤_};
 ghost use Rattle.prepare.specs.Inner.ByRank.{Inside, Gathers};
 use ranks::Position;
 
-// The position and the reliability of each rank, and the hard decisions, bit i for rank i.
+// The reliability of each rank, and the hard decisions, bit i for rank i.
 pub struct ByRank {
-    pub places: [u8; 63],
     pub weight: [u8; 63],
     pub bits: u64,
 }
@@ -15,21 +14,14 @@ pub fn gather(order: [Position; 63], reliability: &[u8; 63], hards: u64, n: usiz
     requires { ⌜ (n ≤ 63) × Inside n order ⌝ }
     ensures { λ r. ⌜ Gathers n (now (reliability .entry)) hards order r ⌝ }
 {
-    let mut places = [0u8; 63];
     let mut weight = [0u8; 63];
     let mut bits: u64 = 0;
     let mut i = n;
     while 0 < i {
         i -= 1;
-        let p = order[i].0;
-        let at = p as usize;
-        places[i] = p;
+        let at = order[i].0 as usize;
         weight[i] = reliability[at];
         bits = bits * 2 + (hards >> at) % 2;
     }
-    ByRank {
-        places,
-        weight,
-        bits,
-    }
+    ByRank { weight, bits }
 }

@@ -4,7 +4,11 @@
 ghost use mathlib.Core.Path.{_≡_};
 ghost use Prim.Native.Nat.{_+_, _%_, _<_, _≤_};
 ghost use lib.ListN.{length};
-ghost use Rattle.prepare.specs.Inner.Exponents.{Below, Outside, Positions, AddsRun, Exponents};
+ghost use Rattle.ranks.specs.Places.{placeIn};
+ghost use Rattle.prepare.specs.Inner.Exponents.{Below, outsideOf, Outside, Positions, AddsRun, Exponents};
+use ranks::Position;
+use ranks::Rank;
+use ranks::position_at;
 
 // The sum of two exponents.
 pub fn plus(n: u8, x: u8, y: u8) -> u8
@@ -44,22 +48,30 @@ fn add_run(zech: &[u8; 128], n: u8, from: usize, list: &mut [u8; 64])
     }
 }
 
+// The place outside that has row v: that of rank `size` + v.
+pub fn outside_at(order: [Position; 63], size: usize, v: usize) -> Position
+    requires { ⌜ size + v < 63 ⌝ }
+    ensures { λ r. ⌜ r .0 ≡ outsideOf size (placeIn order) v ⌝ }
+{
+    position_at(order, Rank((size + v) as u8))
+}
+
 // The exponent of each position p: that of a^p times 1 + a^(p-u) for each place u outside, but where that is 0.
 pub fn of_positions(
     zech: &[u8; 128],
-    places: &[u8; 63],
+    order: [Position; 63],
     n: usize,
     size: usize,
     rows: usize,
 ) -> [u8; 64]
-    requires { ⌜ Outside n size rows (now places) × Below n 128 (now zech) ⌝ }
-    ensures { λ r. ⌜ Exponents n size (now (zech .entry)) (now (places .entry)) rows r ⌝ }
+    requires { ⌜ Outside n size rows (placeIn order) × Below n 128 (now zech) ⌝ }
+    ensures { λ r. ⌜ Exponents n size (now (zech .entry)) (placeIn order) rows r ⌝ }
 {
     let mut list = positions(n as u8);
     let mut v = 0;
     while v < rows {
-        let u = places[size + v] as usize;
-        add_run(zech, n as u8, n - u, &mut list);
+        let place = outside_at(order, size, v);
+        add_run(zech, n as u8, n - place.0 as usize, &mut list);
         v += 1;
     }
     list

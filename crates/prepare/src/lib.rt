@@ -62,11 +62,10 @@ pub fn prepare(m: u8, t: u8, soft: &[i8]) -> Prepared
     let reliability = received.reliability;
     let order = ranks::order::order_of(reliability, n);
     let ranked = by_rank::gather(order, &reliability, hards, n);
-    let places = ranked.places;
     let weight = ranked.weight;
     let bits = ranked.bits;
     let sides = bits >> size;
-    let symbols = table::symbol_table(m, &places, n, size, rows);
+    let symbols = table::symbol_table(m, order, n, size, rows);
     let base = unflipped::row_sums(&symbols, bits, size);
     let bytes = bytes_of(hards);
     Prepared {

@@ -2,9 +2,12 @@
 // factors a^u that their sums have by Zech's logarithms z are the same above and below: the exponent of the cell of position p, in
 // the row of the place u, is e(p) - e(u) - z(p-u), with e as exponents.rt makes it.
 use crate::exponents;
+use ranks::Position;
+use ranks::Rank;
 ghost use mathlib.Core.Path.{_≡_};
 ghost use Prim.Native.Nat.{_<_, _≤_};
 ghost use lib.ListN.{length};
+ghost use Rattle.ranks.specs.Places.{placeIn};
 ghost use Rattle.prepare.specs.Inner.Exponents.{Below, Outside};
 ghost use Rattle.prepare.specs.Inner.Table.{PutsRow, CellExponents, PutsColumn, Numbered, Cells};
 
@@ -34,19 +37,19 @@ fn put_row(
 // All rows.
 fn cell_exponents(
     zech: &[u8; 128],
-    places: &[u8; 63],
+    order: [Position; 63],
     n: usize,
     size: usize,
     rows: usize,
 ) -> [u8; 384]
-    requires { ⌜ Outside n size rows (now places) × Below n 128 (now zech) ⌝ }
-    ensures { λ r. ⌜ CellExponents n size (now (zech .entry)) (now (places .entry)) rows rows r ⌝ }
+    requires { ⌜ Outside n size rows (placeIn order) × Below n 128 (now zech) ⌝ }
+    ensures { λ r. ⌜ CellExponents n size (now (zech .entry)) (placeIn order) rows rows r ⌝ }
 {
     let mut table = [0u8; 384];
-    let list = exponents::of_positions(zech, places, n, size, rows);
+    let list = exponents::of_positions(zech, order, n, size, rows);
     let mut q = 0;
     while q < rows {
-        let u = places[size + q] as usize;
+        let u = exponents::outside_at(order, size, q).0 as usize;
         let own = list[u];
         put_row(zech, &list, n as u8, n - u, own, q, &mut table);
         q += 1;
@@ -54,11 +57,19 @@ fn cell_exponents(
     table
 }
 
-// The column of rank j, at position p. All six rows, used or not: their number is known, so that the loop is unrolled.
-fn put_column(powers: &[u8; 128], exponents: &[u8; 384], p: usize, j: usize, table: &mut [u8; 378])
-    requires { ⌜ (p < 64) × (j < 63) × Below 128 384 (now exponents) × (length (now table) ≡ 378) ⌝ }
-    ensures { λ _. ⌜ PutsColumn p j (now (powers .entry)) (now (exponents .entry)) (now (table .entry)) (now (table .exit)) ⌝ }
+// The column of a rank, whose position is given. All six rows, used or not: their number is known, so that the loop is unrolled.
+fn put_column(
+    powers: &[u8; 128],
+    exponents: &[u8; 384],
+    position: Position,
+    rank: Rank,
+    table: &mut [u8; 378],
+)
+    requires { ⌜ (position .0 < 64) × (rank .0 < 63) × Below 128 384 (now exponents) × (length (now table) ≡ 378) ⌝ }
+    ensures { λ _. ⌜ PutsColumn (position .0) (rank .0) (now (powers .entry)) (now (exponents .entry)) (now (table .entry)) (now (table .exit)) ⌝ }
 {
+    let p = position.0 as usize;
+    let j = rank.0 as usize;
     let mut q = 0;
     while q < 6 {
         table[q * 63 + j] = powers[exponents[q * 64 + p] as usize];
@@ -67,17 +78,17 @@ fn put_column(powers: &[u8; 128], exponents: &[u8; 384], p: usize, j: usize, tab
 }
 
 // All columns.
-pub fn symbol_table(m: u8, places: &[u8; 63], n: usize, size: usize, rows: usize) -> [u8; 378]
-    requires { ⌜ Numbered m n size rows (now places) ⌝ }
-    ensures { λ r. ⌜ Cells m size rows (now (places .entry)) r ⌝ }
+pub fn symbol_table(m: u8, order: [Position; 63], n: usize, size: usize, rows: usize) -> [u8; 378]
+    requires { ⌜ Numbered m n size rows (placeIn order) ⌝ }
+    ensures { λ r. ⌜ Cells m size rows (placeIn order) r ⌝ }
 {
     let mut table = [0u8; 378];
     let powers = gf::exponents::powers(m);
     let zech = gf::exponents::zech(m);
-    let exponents = cell_exponents(&zech, places, n, size, rows);
+    let exponents = cell_exponents(&zech, order, n, size, rows);
     let mut j = 0;
     while j < size {
-        put_column(&powers, &exponents, places[j] as usize, j, &mut table);
+        put_column(&powers, &exponents, order[j], Rank(j as u8), &mut table);
         j += 1;
     }
     table

@@ -26,10 +26,6 @@ module _ (R : ℕ → ℕ) (leaf : ℕ → Best → Best) (size : ℕ) where
       → bestOver R leaf (size - i) i may v x ≡ bestOver R leaf (size - j) j may v x
   search-run i j may v x h = run-step (j - i) i j may v x (omega arith)
 
-  -- one flip is left: it is a pattern
-  pub search-last : (i v : ℕ) (x : Best) → i < size → bestOver R leaf (size - i) i 1 v x ≡ leaf (v ⊕ 2 ^ R i) (bestOver R leaf (size - (i + 1)) (i + 1) 1 v x)
-  search-last i v x h = search-some R leaf size i 1 v x h (λ e. omega arith) ∙ search-early R leaf (size - (i + 1)) (i + 1) (v ⊕ 2 ^ R i) _
-
   -- a part of each pattern, to which a flip of rank i adds F i; a pattern with a part other than 0 is dropped
   module _ (part F : ℕ → ℕ) (drops : (v : ℕ) (x : Best) → (part v ≡ 0 → ⊥) → leaf v x ≡ x)
       (steps : (v i : ℕ) → i < size → part (v ⊕ 2 ^ R i) ≡ part v ⊕ F i) where

@@ -4,14 +4,16 @@
 --   lastIn parts n h               one more than the last rank below n whose part has the slot h, 0 where none has
 --   Chained parts size chains      the chains of all ranks
 --   Shut chains i z                a flip leads nowhere, as far as the chains tell
---   Tabled p symbols parts chains  what is lent is that of the prepared word
+--   At, Next                       where the chains have the rank that is flipped next, and which it is
+--   Tabled p parts chains          what is lent is that of the prepared word
 -- Assumes nothing.
 use mathlib.Core.Path.{_≡_}
 use mathlib.Core.Bool.{cond}
 use mathlib.Core.List.{List}
-use Prim.Native.Nat.{ℕ, zero, suc, _+_, _%_, _<_, _≤_}
+use Prim.Native.Nat.{ℕ, zero, suc, _+_, _-_, _%_, _<_, _≤_}
 use lib.Dec.{eqb}
 use lib.ListN.{getD}
+use Rattle.field.specs.Field.{_⊕_}
 use Rattle.search.specs.Part.{columnPart}
 use Rattle.prepare.specs.PlanOf.{planOf}
 use Rattle.prepare.specs.declared.Prepared.{Prepared}
@@ -35,7 +37,23 @@ pub record Shut (chains : List ℕ) (i z : ℕ) : Type 0 where
   pub some : z ≡ 0 → ⊥
   pub none : getD chains (slotOf z) 0 ≤ i
 
-pub record Tabled (p : Prepared) (symbols parts chains : List ℕ) : Type 0 where
-  pub table : symbols ≡ p .symbols
+-- with one flip left, the chains have at `at` the last rank before `to` that has the part's slot
+abbrev pub At : List ℕ → List ℕ → ℕ → ℕ → ℕ → ℕ → Type 0
+At parts chains part to at may = may ≡ 1 → getD chains at 0 ≡ lastIn parts to (slotOf part)
+
+-- which rank is flipped next, of those from `from` on and before `to`, the last one first: r is one more than it, and `from` where
+-- there is none
+pub record Next (parts chains : List ℕ) (part from to may r : ℕ) : Type 0 where
+  pub low : from ≤ r
+  pub high : r ≤ to
+  -- with one flip left, the last that has the part's slot
+  pub one : may ≡ 1 → r ≡ from + (lastIn parts to (slotOf part) - from)
+  -- with two, the last that is not shut
+  pub two : may ≡ 2 → (i : ℕ) → r ≤ i → i < to → Shut chains (i + 1) (part ⊕ getD parts i 0)
+  pub some : may ≡ 2 → from < r → Shut chains r (part ⊕ getD parts (r - 1) 0) → ⊥
+  -- with more, the last
+  pub more : 2 < may → r ≡ to
+
+pub record Tabled (p : Prepared) (parts chains : List ℕ) : Type 0 where
   pub columns : (j : ℕ) → j < p .size → getD parts j 0 ≡ columnPart (planOf p) (told p) j
   pub chained : Chained parts (p .size) chains

@@ -33,14 +33,13 @@ shr-sides c = search needs
 
 symbol-table-requires : tie.Need-symbol-table-requires
 symbol-table-requires c κs =
-    let start = c .before .before .before .before .before .before .before .before .before .before in
+    let start = c .before .before .before .before .before .before .before .before in
     let m = start .args .m in
     let known = start .pre .0 in
-    let n = c .before .before .before .before .before .before .before .before .before .length-of in
-    let size = c .before .before .before .before .before .before .before .before .reliable-size in
-    let received = c .before .before .before .before .before .before .before .receive in
-    let order = c .before .before .before .before .before .order-of in
-    let ranks = c .before .before .before .gather in
+    let n = c .before .before .before .before .before .before .before .length-of in
+    let size = c .before .before .before .before .before .before .reliable-size in
+    let received = c .before .before .before .before .before .receive in
+    let order = c .before .before .before .order-of in
     let e = n .ensures .0 in
     let f = size .ensures in
     let fit = roots-fit m (start .args .t) known in
@@ -51,7 +50,7 @@ symbol-table-requires c κs =
       long = e;
       all = omega arith;
       each = places-each m (n .result) (known .m-low) (known .m-high) e (start .args .soft .now) (received .result) (received .ensures)
-          (order .result) (order .ensures) (ranks .result) (ranks .ensures);
+          (order .result) (order .ensures);
     }
 
 row-sums-requires : tie.Need-row-sums-requires
@@ -60,37 +59,37 @@ row-sums-requires c κs = search needs
 bytes-of-requires : tie.Need-bytes-of-requires
 bytes-of-requires c κs = search needs
 
+cast-t24 : tie.Need-cast-t24
+cast-t24 c = search needs
+
+cast-t25 : tie.Need-cast-t25
+cast-t25 c = search needs
+
 cast-t26 : tie.Need-cast-t26
-cast-t26 c = search needs
-
-cast-t27 : tie.Need-cast-t27
-cast-t27 c = search needs
-
-cast-t28 : tie.Need-cast-t28
-cast-t28 c =
-    let start = c .before .before .before .before .before .before .before .before .before .before .before .before .before .before in
+cast-t26 c =
+    let start = c .before .before .before .before .before .before .before .before .before .before .before .before in
     let fit = roots-fit (start .args .m) (start .args .t) (start .pre .0) in
-    let n = c .before .before .before .before .before .before .before .before .before .before .before .before .before .length-of .result in
-    let size = c .before .before .before .before .before .before .before .before .before .before .before .before .reliable-size .result in
-    let e = c .before .before .before .before .before .before .before .before .before .before .before .before .before .length-of .ensures .0 in
-    let f = c .before .before .before .before .before .before .before .before .before .before .before .before .reliable-size .ensures in
-    let ranks = c .before .before .before .before .before .before .before .gather in
-    let hards = c .before .before .before .before .before .before .before .before .before .before .before .receive .result .hards in
-    let order = c .before .before .before .before .before .before .before .before .before .order-of .result in
+    let n = c .before .before .before .before .before .before .before .before .before .before .before .length-of .result in
+    let size = c .before .before .before .before .before .before .before .before .before .before .reliable-size .result in
+    let e = c .before .before .before .before .before .before .before .before .before .before .before .length-of .ensures .0 in
+    let f = c .before .before .before .before .before .before .before .before .before .before .reliable-size .ensures in
+    let ranks = c .before .before .before .before .before .gather in
+    let hards = c .before .before .before .before .before .before .before .before .before .receive .result .hards in
+    let order = c .before .before .before .before .before .before .before .order-of .result in
     let few = sides-lt n size hards order (omega arith) (omega (arith, start .pre .0 .t-high)) in
     record { fits = omega (arith, few, ap (λ (u : ℕ). u / 2 ^ size) (ranks .ensures .bits)) }
 
 returns : tie.Need-returns
 returns c =
-    let start = c .before .before .before .before .before .before .before .before .before .before .before .before .before .before in
+    let start = c .before .before .before .before .before .before .before .before .before .before .before .before in
     let m = start .args .m in
     let t = start .args .t in
     let known = start .pre .0 in
-    let n = c .before .before .before .before .before .before .before .before .before .before .before .before .before .length-of in
-    let size = c .before .before .before .before .before .before .before .before .before .before .before .before .reliable-size in
-    let received = c .before .before .before .before .before .before .before .before .before .before .before .receive in
-    let order = c .before .before .before .before .before .before .before .before .before .order-of in
-    let ranks = c .before .before .before .before .before .before .before .gather in
+    let n = c .before .before .before .before .before .before .before .before .before .before .before .length-of in
+    let size = c .before .before .before .before .before .before .before .before .before .before .reliable-size in
+    let received = c .before .before .before .before .before .before .before .before .before .receive in
+    let order = c .before .before .before .before .before .before .before .order-of in
+    let ranks = c .before .before .before .before .before .gather in
     let symbols = c .before .before .before .symbol-table in
     let e = n .ensures .0 in
     let f = size .ensures in
@@ -131,7 +130,7 @@ prepare-spec =
     symbol-table-requires
     row-sums-requires
     bytes-of-requires
+    cast-t24
+    cast-t25
     cast-t26
-    cast-t27
-    cast-t28
     returns)

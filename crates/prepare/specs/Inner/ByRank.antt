@@ -1,7 +1,7 @@
 -- What is by position, by rank, as far as n.
 --   Inside n order                the first n ranks have positions below 63
 --   ranked n w order              the bits of w, by rank
---   Gathers n values w order r    r has the positions, their values, and the bits of w, by rank
+--   Gathers n values w order r    r has the values, and the bits of w, by rank
 -- Assumes nothing.
 use mathlib.Core.Path.{_≡_}
 use mathlib.Core.List.{List}
@@ -19,6 +19,5 @@ unfoldable pub ranked : ℕ → ℕ → List Position → ℕ
 ranked n w order = wordOf n (λ i. bitOf w (placeIn order i))
 
 pub record Gathers (n : ℕ) (values : List ℕ) (hards : ℕ) (order : List Position) (r : ByRank) : Type 0 where
-  pub places : (i : ℕ) → i < n → getD (r .places) i 0 ≡ placeIn order i
   pub weight : (i : ℕ) → i < n → getD (r .weight) i 0 ≡ getD values (placeIn order i) 0
   pub bits : r .bits ≡ ranked n hards order

@@ -1,6 +1,5 @@
 -- `pattern` meets its contract. In each turn of the inner loop the lowest flip that is left goes from `g` into the symbol; in each
--- turn of the outer one a symbol that is 0 or 1 goes into `bits`. A candidate that is farther than the best only counts.
--- Assumes nothing.
+-- turn of the outer one a symbol that is 0 or 1 goes into `bits`; at any other both are left. Assumes nothing.
 use mathlib.Core.Path.{_≡_, sym, ap, subst, _∙_}
 use mathlib.Core.Logic.{⊎-elim}
 use Prim.Native.Nat.{ℕ, _-_, _<_}
@@ -9,7 +8,7 @@ use lib.Count.{trailingZeros}
 use borrow.Author.Needs.{needs}
 use Rattle.field.specs.Field.{_⊕_}
 use Rattle.search.specs.Best.{better}
-use Rattle.search.specs.ByRank.{rankWeighed, differing}
+use Rattle.search.specs.ByRank.{rankWeighed}
 use Rattle.search.proofs.LowestBit.{turn-less}
 use Rattle.prepare.specs.PlanOf.{planOf}
 use Rattle.osd.specs.As.{asBest}
@@ -31,18 +30,18 @@ abbrev μ-outside : tie.MeasureT-outside
 μ-outside p symbols flips best rows base bits₀ q₀ bits q = rows - q
 
 -- in a turn of the inner loop: there is a lowest flip, which is a rank of the reliable set
-some : (c : tie.In-loop Inv-loop μ-loop Inv-outside μ-outside) → 0 < c .before .loop .g
-some c = ne-pos (c .before .loop .g) (c .loop-test .taken)
+some : (c : tie.Else1 Inv-loop μ-loop Inv-outside μ-outside) → 0 < c .before .loop .g
+some c = ne-pos (c .before .loop .g) (c .if1 .left)
 
-low : (c : tie.In-loop Inv-loop μ-loop Inv-outside μ-outside) → trailingZeros 64 (c .before .loop .g) < 61
+low : (c : tie.Else1 Inv-loop μ-loop Inv-outside μ-outside) → trailingZeros 64 (c .before .loop .g) < 61
 low c = let s = c .before .before .before .before .before .before in summed-low (planOf (s .args .p)) (s .pre .0) _ _ _ _ (c .before .loop .inv) (some c)
 
 -- after both loops: every symbol is a bit
-whole : (c : tie.Else2 Inv-loop μ-loop Inv-outside μ-outside)
+whole : (c : tie.Else3 Inv-loop μ-loop Inv-outside μ-outside)
     → Binary (planOf (c .before .before .before .before .before .args .p)) (c .before .before .before .before .before .args .flips) (c .before .before .outside .bits) (c .before .before .before .before .before .args .p .rows)
 whole c =
     let o = c .before .before .outside in
-    let end : o .q ≡ c .before .before .before .before .before .args .p .rows = omega (arith, c .if2 .left, o .inv .most) in
+    let end : o .q ≡ c .before .before .before .before .before .args .p .rows = omega (arith, c .if3 .left, o .inv .most) in
     rw end at (o .inv)
 
 cast-rows : tie.Need-cast-rows Inv-loop μ-loop Inv-outside μ-outside
@@ -85,10 +84,14 @@ cast-bits : tie.Need-cast-bits Inv-loop μ-loop Inv-outside μ-outside
 cast-bits c = search needs
 
 shl-bits : tie.Need-shl-bits Inv-loop μ-loop Inv-outside μ-outside
-shl-bits c = omega (arith, c .before .before .before .before .before .before .before .pre .0 .rows)
+shl-bits c =
+    let i = c .before .before .before in
+    omega (arith, i .outside-test .taken, i .before .before .before .before .pre .0 .rows)
 
 add-q : tie.Need-add-q Inv-loop μ-loop Inv-outside μ-outside
-add-q c = record { fits = omega (arith, c .before .before .before .before .before .before .before .pre .0 .rows) }
+add-q c =
+    let i = c .before .before .before in
+    record { fits = omega (arith, i .outside-test .taken, i .before .before .before .before .pre .0 .rows) }
 
 outside-less : tie.Need-outside-less Inv-loop μ-loop Inv-outside μ-outside
 outside-less c = omega arith
@@ -101,7 +104,7 @@ outside-again c =
     let l = c .before .before .loop in
     let p = planOf (s .args .p) in
     binary-turn p (s .pre .0) (s .args .flips) (o .bits) (o .q) (l .symbol) (o .inv) (c .before .before .before .outside-test .taken)
-    (summed-end p (s .pre .0) _ _ _ _ (l .inv) (c .before .loop-test .left)) (c .if1 .left)
+    (summed-end p (s .pre .0) _ _ _ _ (l .inv) (c .before .if1 .taken)) (c .if2 .left)
 
 returns : tie.Need-returns Inv-loop μ-loop Inv-outside μ-outside
 returns c =
@@ -109,63 +112,42 @@ returns c =
     let o = c .before .before .outside in
     let p = planOf (s .args .p) in
     ⊎-elim
-    (λ w. absurd (omega (arith, c .if2 .taken)))
-    (λ w. sym (tried-not p (s .args .flips) (o .q) (asBest (s .args .best)) (c .if2 .taken)
-    (subst (λ (x : ℕ). 1 < x) (summed-end p (s .pre .0) _ _ _ _ (w .1 .inv) (w .2 .left)) (w .3 .taken))))
+    (λ w. absurd (omega (arith, c .if3 .taken)))
+    (λ w. sym (tried-not p (s .args .flips) (o .q) (asBest (s .args .best)) (c .if3 .taken)
+    (subst (λ (x : ℕ). 1 < x) (summed-end p (s .pre .0) _ _ _ _ (w .1 .inv) (w .2 .taken)) (w .3 .taken))))
     (c .before .outside-test .came)
 
-cast-ranks : tie.Need-cast-ranks Inv-loop μ-loop Inv-outside μ-outside
-cast-ranks c = search needs
+cast-candidate : tie.Need-cast-candidate Inv-loop μ-loop Inv-outside μ-outside
+cast-candidate c = search needs
 
-cast-ranks-2 : tie.Need-cast-ranks-2 Inv-loop μ-loop Inv-outside μ-outside
-cast-ranks-2 c = search needs
+cast-candidate-2 : tie.Need-cast-candidate-2 Inv-loop μ-loop Inv-outside μ-outside
+cast-candidate-2 c = search needs
 
-shl-ranks : tie.Need-shl-ranks Inv-loop μ-loop Inv-outside μ-outside
-shl-ranks c = omega (arith, c .before .before .before .before .before .before .pre .0 .sizes)
+shl-candidate : tie.Need-shl-candidate Inv-loop μ-loop Inv-outside μ-outside
+shl-candidate c = omega (arith, c .before .before .before .before .before .before .pre .0 .sizes)
 
-weigh-requires : tie.Need-weigh-requires Inv-loop μ-loop Inv-outside μ-outside
+candidate-requires : tie.Need-candidate-requires Inv-loop μ-loop Inv-outside μ-outside
 unfolding _⊕_
-weigh-requires c κs =
+candidate-requires c κs =
     let s = c .before .before .before .before .before .before in
     let p = planOf (s .args .p) in
     let b = c .before .before .before .outside .bits in
-    (s .pre .0, rw (differing-is p (s .pre .0) (s .args .flips) b (whole (c .before))) (differing-lt p (s .pre .0) (s .args .flips) b (whole (c .before)) (s .pre .2)))
-
-nearer-requires : tie.Need-nearer-requires Inv-loop μ-loop Inv-outside μ-outside
-nearer-requires c κs = search needs
-
-counting-requires : tie.Need-counting-requires Inv-loop μ-loop Inv-outside μ-outside
-counting-requires c κs = (c .before .nearer .ensures (c .if3 .taken) .0, c .before .before .before .before .before .before .before .before .before .pre .3)
+    let w = whole (c .before) in (
+      s .pre .0,
+      rw (differing-is p (s .pre .0) (s .args .flips) b w) (differing-lt p (s .pre .0) (s .args .flips) b w (s .pre .2)),
+      s .pre .3,
+    )
 
 returns-2 : tie.Need-returns-2 Inv-loop μ-loop Inv-outside μ-outside
 unfolding _⊕_
 returns-2 c =
-    let s = c .before .before .before .before .before .before .before .before .before .before in
+    let s = c .before .before .before .before .before .before .before in
     let p = planOf (s .args .p) in
-    let e = c .before .before .before .before .before in
-    let b = e .before .before .outside .bits in
-    let far = c .before .before .nearer .ensures (c .before .if3 .taken) .1 in
-    let same = c .before .before .before .weigh .ensures ∙ ap (λ (g : ℕ). rankWeighed p g .distance) (differing-is p (s .pre .0) (s .args .flips) b (whole e)) in
-    c .counting .ensures (rankWeighed p (differing p (s .args .flips))) (omega (arith, far, same)) ∙ sym (tried-is p (s .pre .0) (s .args .flips) b (whole e) (asBest (s .args .best)))
-
-placed-requires : tie.Need-placed-requires Inv-loop μ-loop Inv-outside μ-outside
-placed-requires c κs =
-    let w = weigh-requires (c .before .before .before) tt in
-    (w .0, w .1, c .before .before .weigh .ensures)
-
-with-requires : tie.Need-with-requires Inv-loop μ-loop Inv-outside μ-outside
-with-requires c κs = c .before .before .before .before .before .before .before .before .before .before .pre .3
-
-returns-3 : tie.Need-returns-3 Inv-loop μ-loop Inv-outside μ-outside
-unfolding _⊕_
-returns-3 c =
-    let s = c .before .before .before .before .before .before .before .before .before .before .before in
-    let p = planOf (s .args .p) in
-    let e = c .before .before .before .before .before .before in
-    let b = e .before .before .outside .bits in
-    c .with .ensures
-    ∙ ap (better (asBest (s .args .best))) (c .before .placed .ensures ∙ ap (rankWeighed p) (differing-is p (s .pre .0) (s .args .flips) b (whole e)))
-    ∙ sym (tried-is p (s .pre .0) (s .args .flips) b (whole e) (asBest (s .args .best)))
+    let b = c .before .before .before .before .outside .bits in
+    let w = whole (c .before .before) in
+    c .candidate .ensures
+    ∙ ap (λ (g : ℕ). better (asBest (s .args .best)) (rankWeighed p g)) (differing-is p (s .pre .0) (s .args .flips) b w)
+    ∙ sym (tried-is p (s .pre .0) (s .args .flips) b w (asBest (s .args .best)))
 
 pub pattern-spec : {M : Type 1} → statement M
 pattern-spec =
@@ -192,13 +174,8 @@ pattern-spec =
     outside-less
     outside-again
     returns
-    cast-ranks
-    cast-ranks-2
-    shl-ranks
-    weigh-requires
-    nearer-requires
-    counting-requires
-    returns-2
-    placed-requires
-    with-requires
-    returns-3)
+    cast-candidate
+    cast-candidate-2
+    shl-candidate
+    candidate-requires
+    returns-2)

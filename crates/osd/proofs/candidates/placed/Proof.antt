@@ -40,6 +40,9 @@ near c = omega (arith, low c, c .before .before .before .before .before .pre .0 
 at : (c : tie.In-loop Inv-loop μ-loop) → planOf (c .before .before .before .before .before .args .p) .place (trailingZeros 64 (c .before .loop .g)) < 63
 at c = c .before .before .before .before .before .pre .0 .places _ (low c)
 
+here : (c : tie.After-struct-known Inv-loop μ-loop) → c .before .position-at .result .0 < 63
+here c = subst (λ (x : ℕ). x < 63) (sym (c .before .position-at .ensures)) (at (c .before .before))
+
 word-of-requires : tie.Need-word-of-requires Inv-loop μ-loop
 word-of-requires c κs = search needs
 
@@ -51,35 +54,33 @@ loop-holds c =
 cast-lowest : tie.Need-cast-lowest Inv-loop μ-loop
 cast-lowest c = record { fits = omega (arith, near c) }
 
-cast-i : tie.Need-cast-i Inv-loop μ-loop
-cast-i c = record { fits = omega (arith, near (c .before)) }
-
-array-copy-out-position : tie.Need-array-copy-out-position Inv-loop μ-loop
-array-copy-out-position c = near (c .before)
+position-at-requires : tie.Need-position-at-requires Inv-loop μ-loop
+position-at-requires c κs = near c
 
 cast-word : tie.Need-cast-word Inv-loop μ-loop
-cast-word c = record { fits = omega (arith, near (c .before .before .before), at (c .before .before .before)) }
+cast-word c = record { fits = omega (arith, here c) }
 
 shl-word : tie.Need-shl-word Inv-loop μ-loop
-shl-word c = omega (arith, near (c .before .before .before), at (c .before .before .before))
+shl-word c = omega (arith, here c)
 
 add-flips : tie.Need-add-flips Inv-loop μ-loop
 add-flips c =
-    let i = c .before .before .before in
+    let i = c .before .before in
     let s = i .before .before .before .before .before in
     record { fits = omega (arith, left-fits (planOf (s .args .p)) (s .pre .0) _ _ _ _ (left i) (some i)) }
 
 sub-g : tie.Need-sub-g Inv-loop μ-loop
-sub-g c = omega (arith, some (c .before .before .before))
+sub-g c = omega (arith, some (c .before .before))
 
 loop-less : tie.Need-loop-less Inv-loop μ-loop
-loop-less c = turn-less (c .before .before .before .before .loop .g) (some (c .before .before .before))
+loop-less c = turn-less (c .before .before .before .loop .g) (some (c .before .before))
 
 loop-again : tie.Need-loop-again Inv-loop μ-loop
 unfolding _⊕_
 loop-again c =
-    let l = c .before .before .before .before .loop in
-    λ p fits e w h. rw (one-mul, mod-eq-of-lt (pow-lt (shl-word c)), e) (left-turn (planOf p) fits _ _ _ _ (l .inv p fits e w h) (some (c .before .before .before)))
+    let l = c .before .before .before .loop in
+    λ p fits e w h. rw (one-mul, mod-eq-of-lt (pow-lt (shl-word c)), c .before .position-at .ensures, e)
+    (left-turn (planOf p) fits _ _ _ _ (l .inv p fits e w h) (some (c .before .before)))
 
 returns : tie.Need-returns Inv-loop μ-loop
 returns c =
@@ -96,8 +97,7 @@ placed-spec =
     word-of-requires
     loop-holds
     cast-lowest
-    cast-i
-    array-copy-out-position
+    position-at-requires
     cast-word
     shl-word
     add-flips

@@ -51,11 +51,11 @@ next-fits word n order bits i pos l fit e =
     omega (arith, word-from-lt n (bitAt word order) (λ p _. bit-lt word (placeIn order p)) fit (i - 1) (omega arith))
 
 abbrev Inv-loop : tie.InvT-loop
-Inv-loop reliability hards n order places₀ weight₀ bits₀ i₀ places weight bits i =
-    (i ≤ n) × From n (placeIn order) i places × From n (valueAt reliability order) i weight × (bits ≡ wordFrom n (bitAt hards order) i)
+Inv-loop reliability hards n order weight₀ bits₀ i₀ weight bits i =
+    (i ≤ n) × From n (valueAt reliability order) i weight × (bits ≡ wordFrom n (bitAt hards order) i)
 
 abbrev μ-loop : tie.MeasureT-loop
-μ-loop reliability hards n order places₀ weight₀ bits₀ i₀ places weight bits i = i
+μ-loop reliability hards n order weight₀ bits₀ i₀ weight bits i = i
 
 -- the position of the rank in hand
 placed : (c : tie.In-loop Inv-loop μ-loop) → placeIn (c .before .before .args .t1) (c .before .loop .i - 1) < 63
@@ -66,13 +66,12 @@ fits : (c : tie.In-loop Inv-loop μ-loop)
 fits c =
     let a = c .before .before .args in
     let l = c .before .loop in
-    next-fits (a .hards) (a .n) (a .t1) (l .bits) (l .i) (omega arith) (omega arith) (omega arith) (l .inv .3)
+    next-fits (a .hards) (a .n) (a .t1) (l .bits) (l .i) (omega arith) (omega arith) (omega arith) (l .inv .2)
 
 loop-holds : tie.Need-loop-holds Inv-loop μ-loop
 loop-holds c =
     let a = c .args in (
       omega arith,
-      record { full = refl; right = λ j l k. absurd (omega arith) },
       record { full = refl; right = λ j l k. absurd (omega arith) },
       sym (word-from-none (a .n) (bitAt (a .hards) (a .t1))),
     )
@@ -80,14 +79,11 @@ loop-holds c =
 sub-i : tie.Need-sub-i Inv-loop μ-loop
 sub-i c = omega arith
 
-element-copy-out-p : tie.Need-element-copy-out-p Inv-loop μ-loop
-element-copy-out-p c = omega arith
+element-copy-out-at : tie.Need-element-copy-out-at Inv-loop μ-loop
+element-copy-out-at c = omega arith
 
 cast-at : tie.Need-cast-at Inv-loop μ-loop
 cast-at c = omega (arith, placed c)
-
-array-write-places : tie.Need-array-write-places Inv-loop μ-loop
-array-write-places c = omega arith
 
 element-copy-out-weight : tie.Need-element-copy-out-weight Inv-loop μ-loop
 element-copy-out-weight c = omega (arith, placed c)
@@ -112,9 +108,8 @@ loop-again c =
     let a = c .before .before .before .args in
     let l = c .before .before .loop in (
       omega arith,
-      from-more (a .n) (placeIn (a .t1)) (l .i) (l .places) (omega arith) (omega arith) (omega arith) (l .inv .1),
-      from-more (a .n) (valueAt (a .reliability .now) (a .t1)) (l .i) (l .weight) (omega arith) (omega arith) (omega arith) (l .inv .2),
-      next (a .hards) (a .n) (a .t1) (l .bits) (l .i) (omega arith) (omega arith) (l .inv .3),
+      from-more (a .n) (valueAt (a .reliability .now) (a .t1)) (l .i) (l .weight) (omega arith) (omega arith) (omega arith) (l .inv .1),
+      next (a .hards) (a .n) (a .t1) (l .bits) (l .i) (omega arith) (omega arith) (l .inv .2),
     )
 
 returns : tie.Need-returns Inv-loop μ-loop
@@ -124,9 +119,8 @@ returns c =
     let l = c .before .loop in
     let e : l .i ≡ 0 = omega arith in
     record {
-      places = λ i li. l .inv .1 .right i (omega arith) li;
-      weight = λ i li. l .inv .2 .right i (omega arith) li;
-      bits = l .inv .3 ∙ ap (wordFrom (a .n) (bitAt (a .hards) (a .t1))) e ∙ word-from-all (a .n) (bitAt (a .hards) (a .t1));
+      weight = λ i li. l .inv .1 .right i (omega arith) li;
+      bits = l .inv .2 ∙ ap (wordFrom (a .n) (bitAt (a .hards) (a .t1))) e ∙ word-from-all (a .n) (bitAt (a .hards) (a .t1));
     }
 
 pub gather-spec : {M : Type 1} → statement M
@@ -137,9 +131,8 @@ gather-spec =
     μ-loop
     loop-holds
     sub-i
-    element-copy-out-p
+    element-copy-out-at
     cast-at
-    array-write-places
     element-copy-out-weight
     array-write-weight
     mul-bits

@@ -12,52 +12,56 @@ use Rattle.field.proofs.FieldLaws.{laws}
 use Rattle.codes.specs.Lagrange.{Places}
 use Rattle.codes.proofs.ShapeLaws.{length-small, length-large}
 use Rattle.gf.specs.Exponent.{Powers, Zech}
+use Rattle.ranks.specs.Places.{placeIn}
 use Rattle.prepare.specs.Inner.Exponents.{cellExponent}
 use Rattle.prepare.specs.Inner.Table.{CellExponents, PutsColumn, Numbered, Cells}
 use Rattle.prepare.proofs.ExponentLaws.{cell-power}
 use Rattle.prepare.proofs.table.symbol_table.Statement.{statement}
 use Rattle.prepare.proofs.table.symbol_table.Tie as tie
 
-record Columns (powers exponents places : List ℕ) (j : ℕ) (l : List ℕ) : Type 0 where
+record Columns (powers exponents : List ℕ) (place : ℕ → ℕ) (j : ℕ) (l : List ℕ) : Type 0 where
   full : length l ≡ 378
-  cells : (q i : ℕ) → q < 6 → i < j → getD l (q * 63 + i) 0 ≡ getD powers (getD exponents (q * 64 + getD places i 0) 0) 0
+  cells : (q i : ℕ) → q < 6 → i < j → getD l (q * 63 + i) 0 ≡ getD powers (getD exponents (q * 64 + place i) 0) 0
 
 -- one column more
-columns-more : (powers exponents places : List ℕ) (j : ℕ) (before after : List ℕ) → j < 63 → Columns powers exponents places j before
-    → PutsColumn (getD places j 0) j powers exponents before after → Columns powers exponents places (j + 1) after
-columns-more powers exponents places j before after lj c put = record {
+columns-more : (powers exponents : List ℕ) (place : ℕ → ℕ) (j : ℕ) (before after : List ℕ) → j < 63
+    → Columns powers exponents place j before → PutsColumn (place j) j powers exponents before after
+    → Columns powers exponents place (j + 1) after
+columns-more powers exponents place j before after lj c put = record {
   full = put .full;
   cells = λ q i lq li.
       by-cases (ℕ-discrete i j)
-      (λ same. subst (λ (x : ℕ). getD after (q * 63 + x) 0 ≡ getD powers (getD exponents (q * 64 + getD places x 0) 0) 0) (sym same) (put .column q lq))
+      (λ same. subst (λ (x : ℕ). getD after (q * 63 + x) 0 ≡ getD powers (getD exponents (q * 64 + place x) 0) 0) (sym same)
+      (put .column q lq))
       (λ other. put .rest q i (omega arith) other ∙ c .cells q i lq (omega arith));
 }
 
 -- the powers of the exponents are the cells
-columns-cells : (m n size rows : ℕ) (powers zech exponents places l : List ℕ) → Numbered m n size rows places → Powers m powers → Zech m zech
-    → CellExponents n size zech places rows rows exponents → Columns powers exponents places size l → Cells m size rows places l
-columns-cells m n size rows powers zech exponents places l nb pw z e c o j lo lj =
+columns-cells : (m n size rows : ℕ) (powers zech exponents : List ℕ) (place : ℕ → ℕ) (l : List ℕ) → Numbered m n size rows place
+    → Powers m powers → Zech m zech → CellExponents n size zech place rows rows exponents → Columns powers exponents place size l
+    → Cells m size rows place l
+columns-cells m n size rows powers zech exponents place l nb pw z e c o j lo lj =
     let F = laws m (nb .m-low) (nb .m-high) in
-    let p = getD places j 0 in
+    let p = place j in
     let lp : p < lengthOf m = nb .each .inside j (omega (arith, nb .all)) in
-    let each : Places m (lengthOf m) (λ i. getD places i 0) = subst (λ (u : ℕ). Places m u (λ i. getD places i 0)) (nb .long) (nb .each) in
+    let each : Places m (lengthOf m) place = subst (λ (u : ℕ). Places m u place) (nb .long) (nb .each) in
     let all : size + rows ≡ lengthOf m = nb .all ∙ nb .long in
     let short = length-small m (nb .m-low) (nb .m-high) in
     c .cells o j (omega (arith, nb .few)) lj ∙ pw (getD exponents (o * 64 + p) 0) (e .below (o * 64 + p) (omega (arith, nb .few)))
     ∙ ap (alphaTo m) (e .right o p lo (omega (arith, nb .long)))
-    ∙ ap (λ (u : ℕ). alphaTo m (cellExponent u size zech places rows o p)) (nb .long)
-    ∙ cell-power m F size rows zech places z each all short o p lo lp
+    ∙ ap (λ (u : ℕ). alphaTo m (cellExponent u size zech place rows o p)) (nb .long)
+    ∙ cell-power m F size rows zech place z each all short o p lo lp
     (λ v lv ne q. let s : j ≡ size + v = nb .each .apart j (size + v) (omega (arith, nb .all)) (omega (arith, nb .all)) q in omega arith)
 
 abbrev Inv-loop : tie.InvT-loop
-Inv-loop m places n size rows table₀ powers exponents j₀ table j = (j ≤ size) × Columns powers exponents places j table
+Inv-loop m n size rows order table₀ powers exponents j₀ table j = (j ≤ size) × Columns powers exponents (placeIn order) j table
 
 abbrev μ-loop : tie.MeasureT-loop
-μ-loop m places n size rows table₀ powers exponents j₀ table j = size - j
+μ-loop m n size rows order table₀ powers exponents j₀ table j = size - j
 
 -- in a turn: the rank and its position
 near : (c : tie.In-loop Inv-loop μ-loop)
-    → (c .before .loop .j < 63) × (getD (c .before .before .before .before .before .before .args .places .now) (c .before .loop .j) 0 < 63)
+    → (c .before .loop .j < 63) × (placeIn (c .before .before .before .before .before .before .args .t2) (c .before .loop .j) < 63)
 near c =
     let s = c .before .before .before .before .before .before in
     let small = length-small (s .args .m) (s .pre .m-low) (s .pre .m-high) in
@@ -89,11 +93,11 @@ cell-exponents-requires c κs =
 loop-holds : tie.Need-loop-holds Inv-loop μ-loop
 loop-holds c = (omega arith, record { full = refl; cells = λ q i lq li. absurd (omega arith) })
 
-element-copy-out-put-column : tie.Need-element-copy-out-put-column Inv-loop μ-loop
-element-copy-out-put-column c = near (c .before .before) .0
+array-copy-out-put-column : tie.Need-array-copy-out-put-column Inv-loop μ-loop
+array-copy-out-put-column c = near (c .before .before) .0
 
-cast-put-column : tie.Need-cast-put-column Inv-loop μ-loop
-cast-put-column c = record { fits = omega (arith, near (c .before .before .before) .1) }
+cast-t23 : tie.Need-cast-t23 Inv-loop μ-loop
+cast-t23 c = record { fits = omega (arith, near (c .before .before .before) .0) }
 
 put-column-requires : tie.Need-put-column-requires Inv-loop μ-loop
 put-column-requires c κs =
@@ -122,9 +126,9 @@ returns c =
     let powers = c .before .before .before .before .before .powers in
     let l = c .before .loop in
     let e : l .j ≡ a .size = omega arith in
-    columns-cells (a .m) (a .n) (a .size) (a .rows) (powers .result) (zech .result) (exponents .result) (a .places .now)
+    columns-cells (a .m) (a .n) (a .size) (a .rows) (powers .result) (zech .result) (exponents .result) (placeIn (a .t2))
     (l .table) (s .pre) (powers .ensures) (zech .ensures)
-    (exponents .ensures) (subst (λ (u : ℕ). Columns (powers .result) (exponents .result) (a .places .now) u (l .table)) e (l .inv .1))
+    (exponents .ensures) (subst (λ (u : ℕ). Columns (powers .result) (exponents .result) (placeIn (a .t2)) u (l .table)) e (l .inv .1))
 
 pub symbol-table-spec : {M : Type 1} → statement M
 symbol-table-spec =
@@ -136,8 +140,8 @@ symbol-table-spec =
     zech-requires
     cell-exponents-requires
     loop-holds
-    element-copy-out-put-column
-    cast-put-column
+    array-copy-out-put-column
+    cast-t23
     put-column-requires
     add-j
     loop-less

@@ -7,6 +7,9 @@ use Rattle.field.specs.Field.{_⊕_}
 use Rattle.osd.proofs.flips.Flips.with.Statement.{statement}
 use Rattle.osd.proofs.flips.Flips.with.Tie as tie
 
+cast-bit : tie.Need-cast-bit
+cast-bit c = search needs
+
 shl-bit : tie.Need-shl-bit
 shl-bit c = search needs
 
@@ -15,4 +18,4 @@ unfolding _⊕_
 returns c = (rw (one-mul, mod-eq-of-lt (pow-lt (shl-bit (c .before .before)))), refl)
 
 pub with-spec : {M : Type 1} → statement M
-with-spec = tie.close (tie.spec shl-bit returns)
+with-spec = tie.close (tie.spec cast-bit shl-bit returns)
