@@ -1,6 +1,6 @@
 //! What the calls cost. `cost` prints the time of each case; under callgrind `cost count` runs each case once, between two marks, and
-//! `cost FILE` prints instructions too, from the dumps FILE.1, FILE.2, .. that callgrind writes before the first mark and after the
-//! second. Words are random codewords in noise at 4 dB, the same in every run.
+//! `cost FILE` prints instructions and entered patterns too, from the dumps FILE.1, FILE.2, .. that callgrind writes before the first
+//! mark and after the second. Words are random codewords in noise at 4 dB, the same in every run.
 mod channel;
 mod library;
 use channel::{deviation, receive, Random};
@@ -92,10 +92,39 @@ fn time(case: Case) -> f64 {
     (0..ROUNDS).map(|_| round()).fold(f64::INFINITY, f64::min)
 }
 
+fn dump(file: &str, case: usize) -> String {
+    std::fs::read_to_string(format!("{file}.{}", 2 * case + 2)).expect("callgrind's dump")
+}
+
 fn instructions(file: &str, case: usize) -> f64 {
-    let text = std::fs::read_to_string(format!("{file}.{}", 2 * case + 2)).expect("callgrind's dump");
+    let text = dump(file, case);
     let line = text.lines().find_map(|l| l.strip_prefix("totals: ").or(l.strip_prefix("summary: "))).expect("its total");
     line.trim().parse::<f64>().expect("a number") / WORDS as f64
+}
+
+// how often a word enters the function that tries one pattern: 0 if the compiler has taken it into its caller
+fn entered(file: &str, case: usize) -> f64 {
+    let text = dump(file, case);
+    let number = |line: &str| line.split_once('(').and_then(|(_, rest)| rest.split_once(')')).map(|(id, _)| id.to_string());
+    let pattern = text.lines().find(|l| l.ends_with(") osd::candidates::pattern")).and_then(number);
+    let (mut here, mut calls) = (false, 0.0);
+    for line in text.lines() {
+        if line.starts_with("cfn=") {
+            here = pattern.is_some() && number(line) == pattern;
+        } else if let (true, Some(rest)) = (here, line.strip_prefix("calls=")) {
+            calls += rest.split(' ').next().and_then(|n| n.parse().ok()).unwrap_or(0.0);
+        }
+    }
+    calls / WORDS as f64
+}
+
+fn candidates(m: u32, t: u32, order: u32) -> f64 {
+    let one = |word: &Word| {
+        let (mut bytes, mut figures) = ([0; 8], [0; 3]);
+        library::decode(m, t, 0, order, &word.soft, &mut bytes, &mut figures);
+        figures[2]
+    };
+    words(m, t).iter().map(one).sum::<u32>() as f64 / WORDS as f64
 }
 
 fn grouped(number: f64) -> String {
@@ -130,6 +159,13 @@ fn print(file: Option<&str>) {
     for (m, t, _) in CODES {
         let cost = |order| { let case = Case::Decode(m, t, order); file.map_or_else(|| time(case), |f| instructions(f, place(case))) };
         let row: String = (0..4).map(|order| format!("{:>14}", grouped(cost(order)))).collect();
+        println!("{:<20}{row}", format!("{} t = {t}", code(m, t)));
+    }
+    let Some(file) = file else { return };
+    println!("\npatterns entered and candidates, a word");
+    for (m, t, _) in CODES {
+        let cell = |order| format!("{:.1} {:.1}", entered(file, place(Case::Decode(m, t, order))), candidates(m, t, order));
+        let row: String = (0..4).map(|order| format!("{:>16}", cell(order))).collect();
         println!("{:<20}{row}", format!("{} t = {t}", code(m, t)));
     }
 }

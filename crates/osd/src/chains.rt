@@ -1,5 +1,6 @@
 // The ranks in chains, each with the ranks whose columns' parts have one slot: the last flip is looked up by its part, and a flip that
-// leads nowhere is told without a walk over the ranks after it. A slot is ten bits of the part, so what is looked up may yet be dropped.
+// leads nowhere is told without a walk over the ranks after it. At t = 3 a slot is ten of the part's 11 to 13 bits, so what is looked up
+// there may yet be dropped.
 ghost use mathlib.Core.Path.{_≡_};
 ghost use Prim.Native.Nat.{_≤_, _<_};
 ghost use Rattle.osd.specs.Inner.Chains.{slotOf, Chained, At, Next};
@@ -29,9 +30,9 @@ pub fn chain(parts: &[u16; 64], size: usize) -> [u8; 1088]
     chains
 }
 
-// Which rank is flipped next, of those from `from` on and before `to`, the last one first: one more than it, `from` where there is none.
-// With one flip left it is looked up in the chains, which have it at `at`; with two it is the next whose flip may lead to a candidate;
-// with more it is the next one.
+// Which rank is flipped next, of those from `from` on and before `to`, the last one first. What is given is an end: the rank before it is
+// flipped, and where it is `from` there is none. With one flip left the rank is looked up in the chains at `at`, which is the part's slot
+// at first and then the rank that was flipped last; with two it is the next whose flip may lead to a candidate; with more the next one.
 pub fn next_flip<'a>(
     parts: &'a [u16; 64],
     chains: &'a [u8; 1088],
@@ -41,7 +42,7 @@ pub fn next_flip<'a>(
     at: usize,
     may: u8,
 ) -> Rank
-    requires { ⌜ (from .0 ≤ to .0) × (to .0 ≤ 64) × (at < 1088) × At (now parts) (now chains) part (to .0) at may ⌝ }
+    requires { ⌜ (from .0 ≤ to .0) × (to .0 ≤ 64) × (0 < may) × (at < 1088) × At (now parts) (now chains) part (to .0) at may ⌝ }
     ensures { λ r. ⌜ Next (now (parts .entry)) (now (chains .entry)) part (from .0) (to .0) may (r .0) ⌝ }
 {
     let first = from.0;

@@ -20,9 +20,9 @@ ghost use Rattle.osd.specs.As.{asBest};
 ghost use Rattle.osd.specs.Inner.Parts.{Made};
 ghost use Rattle.osd.specs.Inner.Chains.{Tabled};
 
-// How many ranks are linked in the chains: none where no flip is allowed.
+// How many ranks are linked in the chains: none where no flip is allowed, since nothing is looked up then.
 fn linked(size: u8, order: u8) -> usize
-    ensures { λ r. ⌜ (r ≤ size) × ((order ≡ 0 → ⊥) → r ≡ size) ⌝ }
+    ensures { λ r. ⌜ (r ≤ size) × (order ≡ 0 → r ≡ 0) × ((order ≡ 0 → ⊥) → r ≡ size) ⌝ }
 {
     if order == 0 {
         return 0;
@@ -48,8 +48,8 @@ fn keep<'a>(
     requires { ⌜ (rank .0 ≤ p .size) × (best .count + patterns (p .size - rank .0) may ≤ 100000) ⌝ }
     ensures { λ r. ⌜ asBest r ≡ bestOver (λ i. i) (tried (planOf p)) (p .size - rank .0) (rank .0) may (flips .ranks) (asBest best) ⌝ }
 {
-    // With no flip left the pattern is all. It is called here too, since a function that is called in one place alone is compiled into
-    // its caller, and keep would copy what pattern reads of the prepared word at each entry.
+    // With no flip left the pattern is all. `pattern` is called here and below, since a function that is called in one place alone is
+    // compiled into its caller, and keep would then copy the prepared word whenever it calls itself.
     if may == 0 {
         return pattern(p, symbols, flips.ranks, best);
     }
@@ -86,7 +86,8 @@ fn flip<'a>(
     keep(p, next, may - 1, made, best, symbols, parts, chains)
 }
 
-// The best over all patterns of the reliable ranks with at most `order` flips. What is lent is built once.
+// The best over all patterns of the reliable ranks with at most `order` flips. What is lent is built once, at order 0 too, where it is not
+// read: so keep is entered in one way at every order.
 pub fn search(p: Prepared, order: u8) -> Best
     requires { ⌜ Fits (planOf p) × (order ≤ 3) ⌝ }
     ensures { λ r. ⌜ asBest r ≡ rankSearched (planOf p) order ⌝ }

@@ -9,7 +9,8 @@ pub struct ByRank {
     pub bits: u64,
 }
 
-// All in one pass, from the last rank to the first: each bit goes in below those of the ranks after it.
+// All in one pass, from the last rank to the first: each bit goes in below those of the ranks after it. The pass goes along the order
+// itself, since a call of `position_at` would copy it at each turn.
 pub fn gather(order: [Position; 63], reliability: &[u8; 63], hards: u64, n: usize) -> ByRank
     requires { ⌜ (n ≤ 63) × Inside n order ⌝ }
     ensures { λ r. ⌜ Gathers n (now (reliability .entry)) hards order r ⌝ }
@@ -19,9 +20,9 @@ pub fn gather(order: [Position; 63], reliability: &[u8; 63], hards: u64, n: usiz
     let mut i = n;
     while 0 < i {
         i -= 1;
-        let at = order[i].0 as usize;
-        weight[i] = reliability[at];
-        bits = bits * 2 + (hards >> at) % 2;
+        let position = order[i];
+        weight[i] = reliability[position.0 as usize];
+        bits = bits * 2 + (hards >> position.0) % 2;
     }
     ByRank { weight, bits }
 }

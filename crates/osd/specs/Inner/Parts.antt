@@ -20,7 +20,8 @@ PartsOf symbols k l = (j : ℕ) → j < 64 → getD l j 0 ≡ packed (λ q. getD
 abbrev pub RowAdded : List ℕ → ℕ → List ℕ → List ℕ → Type 0
 RowAdded symbols q l m = (j : ℕ) → j < 64 → getD m j 0 ≡ getD l j 0 ⊕ getD symbols (q * 63 + j) 0 / 2 * 2 ^ (4 * q)
 
--- t of the 2t rows: where the symbols of t rows are bits, so are all, which makes the test sharp, and no proof rests on it
+-- t of the 2t rows: where the symbols of t rows are bits, so are all, which makes the test sharp (but for the bit in which rows overlap
+-- at m = 6), and no proof rests on it
 abbrev pub told : Prepared → ℕ
 told p = p .rows / 2
 

@@ -58,10 +58,10 @@ position-at-requires : tie.Need-position-at-requires Inv-loop μ-loop
 position-at-requires c κs = near c
 
 cast-word : tie.Need-cast-word Inv-loop μ-loop
-cast-word c = record { fits = omega (arith, here c) }
+cast-word c = record { fits = omega (arith, near (c .before .before), here c) }
 
 shl-word : tie.Need-shl-word Inv-loop μ-loop
-shl-word c = omega (arith, here c)
+shl-word c = omega (arith, near (c .before .before), here c)
 
 add-flips : tie.Need-add-flips Inv-loop μ-loop
 add-flips c =

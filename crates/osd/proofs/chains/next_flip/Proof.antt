@@ -53,13 +53,13 @@ element-copy-out-linked c = search needs
 returns : tie.Need-returns Inv-loop μ-loop
 returns c =
     let first = c .before .before in
-    let e = first .before .pre .3 (first .if1 .taken) in
+    let e = first .before .pre .4 (first .if1 .taken) in
     looked _ _ _ _ _ _ _ (first .before .pre .0) (first .if1 .taken) (omega (arith, c .if2 .taken, e))
 
 returns-2 : tie.Need-returns-2 Inv-loop μ-loop
 returns-2 c =
     let first = c .before .before in
-    let e = first .before .pre .3 (first .if1 .taken) in
+    let e = first .before .pre .4 (first .if1 .taken) in
     looked _ _ _ _ _ _ _ (first .before .pre .0) (first .if1 .taken) (omega (arith, c .if2 .left, e))
 
 returns-3 : tie.Need-returns-3 Inv-loop μ-loop

@@ -48,62 +48,43 @@ keep-at t = and 1 keep-kinds.ps (is 1 keep-kinds.ps μ-keep t) keep.Pre
 abbrev keep-below : ℕ → In 1 keep-kinds.ps
 keep-below t = and 1 keep-kinds.ps (falls 1 keep-kinds.ps _<_ μ-keep t) keep.Pre
 
-flip-cast-i : (t : ℕ) → flip-lts.Need-cast-i (
-  with-reads.Asked,
-  with-reads.Learnt,
-  keep-below t,
-  keep.Post,
-) (flip-at t) flip.Post
+-- what the functions that each calls ask and ensure
+abbrev flip-claims : ℕ → flip-lts.Claims
+flip-claims t = (with-reads.Asked, with-reads.Learnt, keep-below t, keep.Post)
+
+abbrev keep-claims : ℕ → keep-lts.Claims
+keep-claims t = (
+  pattern-reads.Asked,
+  pattern-reads.Learnt,
+  slot-reads.Asked,
+  slot-reads.Learnt,
+  next-flip-reads.Asked,
+  next-flip-reads.Learnt,
+  flip-below t,
+  flip.Post,
+)
+
+flip-cast-i : (t : ℕ) → flip-lts.Need-cast-i (flip-claims t) (flip-at t) flip.Post
 flip-cast-i t c = search needs
 
-flip-mul-with : (t : ℕ) → flip-lts.Need-mul-with (
-  with-reads.Asked,
-  with-reads.Learnt,
-  keep-below t,
-  keep.Post,
-) (flip-at t) flip.Post
+flip-mul-with : (t : ℕ) → flip-lts.Need-mul-with (flip-claims t) (flip-at t) flip.Post
 flip-mul-with t c = record { fits = omega (arith, c .before .pre .1 .0 .0 .sizes) }
 
-flip-element-copy-out-with : (t : ℕ) → flip-lts.Need-element-copy-out-with (
-  with-reads.Asked,
-  with-reads.Learnt,
-  keep-below t,
-  keep.Post,
-) (flip-at t) flip.Post
+flip-element-copy-out-with : (t : ℕ) → flip-lts.Need-element-copy-out-with (flip-claims t) (flip-at t) flip.Post
 flip-element-copy-out-with t c = omega (arith, c .before .pre .1 .0 .0 .sizes)
 
-flip-with-requires : (t : ℕ) → flip-lts.Need-with-requires (
-  with-reads.Asked,
-  with-reads.Learnt,
-  keep-below t,
-  keep.Post,
-) (flip-at t) flip.Post
+flip-with-requires : (t : ℕ) → flip-lts.Need-with-requires (flip-claims t) (flip-at t) flip.Post
 flip-with-requires t c κs = omega (arith, c .before .before .pre .1 .0 .0 .sizes)
 
-flip-add-keep : (t : ℕ) → flip-lts.Need-add-keep (
-  with-reads.Asked,
-  with-reads.Learnt,
-  keep-below t,
-  keep.Post,
-) (flip-at t) flip.Post
+flip-add-keep : (t : ℕ) → flip-lts.Need-add-keep (flip-claims t) (flip-at t) flip.Post
 flip-add-keep t c =
     let pre = c .before .before .before .before .pre .1 in
     record { fits = omega (arith, pre .0 .0 .sizes, pre .1 .0) }
 
-flip-sub-keep : (t : ℕ) → flip-lts.Need-sub-keep (
-  with-reads.Asked,
-  with-reads.Learnt,
-  keep-below t,
-  keep.Post,
-) (flip-at t) flip.Post
+flip-sub-keep : (t : ℕ) → flip-lts.Need-sub-keep (flip-claims t) (flip-at t) flip.Post
 flip-sub-keep t c = omega (arith, c .before .before .before .before .pre .1 .1 .1)
 
-flip-keep-requires : (t : ℕ) → flip-lts.Need-keep-requires (
-  with-reads.Asked,
-  with-reads.Learnt,
-  keep-below t,
-  keep.Post,
-) (flip-at t) flip.Post
+flip-keep-requires : (t : ℕ) → flip-lts.Need-keep-requires (flip-claims t) (flip-at t) flip.Post
 flip-keep-requires t c κs =
     let s = c .before .before .before .before in
     let a = s .args in
@@ -117,12 +98,7 @@ flip-keep-requires t c κs =
       ),
     )
 
-flip-returns : (t : ℕ) → flip-lts.Need-returns (
-  with-reads.Asked,
-  with-reads.Learnt,
-  keep-below t,
-  keep.Post,
-) (flip-at t) flip.Post
+flip-returns : (t : ℕ) → flip-lts.Need-returns (flip-claims t) (flip-at t) flip.Post
 flip-returns t c =
     let a = c .before .before .before .before .before .args in
     c .keep .ensures ∙ ap (λ (w : ℕ). over (a .p) (a .rank .0 + 1) (a .may - 1) w (asBest (a .best))) (c .before .before .with .ensures .0)
@@ -136,16 +112,7 @@ abbrev keep-μ-loop : keep-lts.MeasureT-loop
 keep-μ-loop p rank may flips symbols parts chains part size b₀ end₀ b end = end .0
 
 -- what a pattern asks, with room for one more candidate
-one : (t : ℕ) (c : keep-lts.Start (
-  pattern-reads.Asked,
-  pattern-reads.Learnt,
-  slot-reads.Asked,
-  slot-reads.Learnt,
-  next-flip-reads.Asked,
-  next-flip-reads.Learnt,
-  flip-below t,
-  flip.Post,
-) (keep-at t) keep.Post keep-Inv-loop keep-μ-loop)
+one : (t : ℕ) (c : keep-lts.Start (keep-claims t) (keep-at t) keep.Post keep-Inv-loop keep-μ-loop)
     → Fits (planOf (c .args .p)) × (c .args .symbols .now ≡ c .args .p .symbols) × (c .args .flips .ranks < 2 ^ c .args .p .size)
     × (c .args .best .count < 100000)
 one t c =
@@ -154,99 +121,36 @@ one t c =
     (pre .0 .0, pre .0 .1, pre .0 .2 .low, omega (arith, pre .1 .1, patterns-pos (a .p .size - a .rank .0) (a .may)))
 
 -- a flip is left, so the ranks are linked
-tabled : (t : ℕ) (c : keep-lts.Else1 (
-  pattern-reads.Asked,
-  pattern-reads.Learnt,
-  slot-reads.Asked,
-  slot-reads.Learnt,
-  next-flip-reads.Asked,
-  next-flip-reads.Learnt,
-  flip-below t,
-  flip.Post,
-) (keep-at t) keep.Post keep-Inv-loop keep-μ-loop)
+tabled : (t : ℕ) (c : keep-lts.Else1 (keep-claims t) (keep-at t) keep.Post keep-Inv-loop keep-μ-loop)
     → Tabled (c .before .args .p) (c .before .args .parts .now) (c .before .args .chains .now)
 tabled t c = c .before .pre .1 .0 .3 (ne-pos (c .before .args .may) (c .if1 .left))
 
-keep-pattern-requires : (t : ℕ) → keep-lts.Need-pattern-requires (
-  pattern-reads.Asked,
-  pattern-reads.Learnt,
-  slot-reads.Asked,
-  slot-reads.Learnt,
-  next-flip-reads.Asked,
-  next-flip-reads.Learnt,
-  flip-below t,
-  flip.Post,
-) (keep-at t) keep.Post keep-Inv-loop keep-μ-loop
+keep-pattern-requires : (t : ℕ) → keep-lts.Need-pattern-requires (keep-claims t) (keep-at t) keep.Post keep-Inv-loop keep-μ-loop
 keep-pattern-requires t c κs = one t (c .before)
 
-keep-returns : (t : ℕ) → keep-lts.Need-returns (
-  pattern-reads.Asked,
-  pattern-reads.Learnt,
-  slot-reads.Asked,
-  slot-reads.Learnt,
-  next-flip-reads.Asked,
-  next-flip-reads.Learnt,
-  flip-below t,
-  flip.Post,
-) (keep-at t) keep.Post keep-Inv-loop keep-μ-loop
+keep-returns : (t : ℕ) → keep-lts.Need-returns (keep-claims t) (keep-at t) keep.Post keep-Inv-loop keep-μ-loop
 keep-returns t c =
     let a = c .before .before .args in
     c .pattern .ensures
     ∙ sym (ap (λ (n : ℕ). over (a .p) (a .rank .0) n (a .flips .ranks) (asBest (a .best))) (c .before .if1 .taken)
     ∙ search-early (λ i. i) (tried (planOf (a .p))) (a .p .size - a .rank .0) (a .rank .0) (a .flips .ranks) (asBest (a .best)))
 
-keep-pattern-requires-2 : (t : ℕ) → keep-lts.Need-pattern-requires-2 (
-  pattern-reads.Asked,
-  pattern-reads.Learnt,
-  slot-reads.Asked,
-  slot-reads.Learnt,
-  next-flip-reads.Asked,
-  next-flip-reads.Learnt,
-  flip-below t,
-  flip.Post,
-) (keep-at t) keep.Post keep-Inv-loop keep-μ-loop
+keep-pattern-requires-2 : (t : ℕ) → keep-lts.Need-pattern-requires-2 (keep-claims t) (keep-at t) keep.Post keep-Inv-loop keep-μ-loop
 keep-pattern-requires-2 t c κs = one t (c .before)
 
-keep-slot-requires : (t : ℕ) → keep-lts.Need-slot-requires (
-  pattern-reads.Asked,
-  pattern-reads.Learnt,
-  slot-reads.Asked,
-  slot-reads.Learnt,
-  next-flip-reads.Asked,
-  next-flip-reads.Learnt,
-  flip-below t,
-  flip.Post,
-) (keep-at t) keep.Post keep-Inv-loop keep-μ-loop
+keep-slot-requires : (t : ℕ) → keep-lts.Need-slot-requires (keep-claims t) (keep-at t) keep.Post keep-Inv-loop keep-μ-loop
 keep-slot-requires t c κs = search needs
 
-keep-next-flip-requires : (t : ℕ) → keep-lts.Need-next-flip-requires (
-  pattern-reads.Asked,
-  pattern-reads.Learnt,
-  slot-reads.Asked,
-  slot-reads.Learnt,
-  next-flip-reads.Asked,
-  next-flip-reads.Learnt,
-  flip-below t,
-  flip.Post,
-) (keep-at t) keep.Post keep-Inv-loop keep-μ-loop
+keep-next-flip-requires : (t : ℕ) → keep-lts.Need-next-flip-requires (keep-claims t) (keep-at t) keep.Post keep-Inv-loop keep-μ-loop
 keep-next-flip-requires t c κs =
     let s = c .before .before .before in
     let a = s .args in
     let pre = s .pre .1 in
     let tab = tabled t (c .before .before) in
     let at = at-first (a .p) _ _ tab (a .flips .ranks) (a .flips .part) (pre .0 .2 .part) _ (a .may) (c .slot .ensures .0) in
-    (pre .1 .0, omega (arith, pre .0 .0 .sizes), c .slot .ensures .1, at)
+    (pre .1 .0, omega (arith, pre .0 .0 .sizes), ne-pos (a .may) (c .before .before .if1 .left), c .slot .ensures .1, at)
 
-keep-loop-holds : (t : ℕ) → keep-lts.Need-loop-holds (
-  pattern-reads.Asked,
-  pattern-reads.Learnt,
-  slot-reads.Asked,
-  slot-reads.Learnt,
-  next-flip-reads.Asked,
-  next-flip-reads.Learnt,
-  flip-below t,
-  flip.Post,
-) (keep-at t) keep.Post keep-Inv-loop keep-μ-loop
+keep-loop-holds : (t : ℕ) → keep-lts.Need-loop-holds (keep-claims t) (keep-at t) keep.Post keep-Inv-loop keep-μ-loop
 keep-loop-holds t c =
     let s = c .before .before .before .before in
     let a = s .args in
@@ -258,28 +162,10 @@ keep-loop-holds t c =
           (a .rank .0) _ (a .may) _ n (ne-pos (a .may) (c .before .before .before .if1 .left)),
     )
 
-keep-sub-t18 : (t : ℕ) → keep-lts.Need-sub-t18 (
-  pattern-reads.Asked,
-  pattern-reads.Learnt,
-  slot-reads.Asked,
-  slot-reads.Learnt,
-  next-flip-reads.Asked,
-  next-flip-reads.Learnt,
-  flip-below t,
-  flip.Post,
-) (keep-at t) keep.Post keep-Inv-loop keep-μ-loop
+keep-sub-t18 : (t : ℕ) → keep-lts.Need-sub-t18 (keep-claims t) (keep-at t) keep.Post keep-Inv-loop keep-μ-loop
 keep-sub-t18 t c = omega (arith, c .before .if2 .taken)
 
-keep-flip-requires : (t : ℕ) → keep-lts.Need-flip-requires (
-  pattern-reads.Asked,
-  pattern-reads.Learnt,
-  slot-reads.Asked,
-  slot-reads.Learnt,
-  next-flip-reads.Asked,
-  next-flip-reads.Learnt,
-  flip-below t,
-  flip.Post,
-) (keep-at t) keep.Post keep-Inv-loop keep-μ-loop
+keep-flip-requires : (t : ℕ) → keep-lts.Need-flip-requires (keep-claims t) (keep-at t) keep.Post keep-Inv-loop keep-μ-loop
 keep-flip-requires t c κs =
     let s = c .before .before .before .before .before .before .before .before .before in
     let a = s .args in
@@ -300,28 +186,10 @@ keep-flip-requires t c κs =
       ),
     )
 
-keep-cast-next-flip : (t : ℕ) → keep-lts.Need-cast-next-flip (
-  pattern-reads.Asked,
-  pattern-reads.Learnt,
-  slot-reads.Asked,
-  slot-reads.Learnt,
-  next-flip-reads.Asked,
-  next-flip-reads.Learnt,
-  flip-below t,
-  flip.Post,
-) (keep-at t) keep.Post keep-Inv-loop keep-μ-loop
+keep-cast-next-flip : (t : ℕ) → keep-lts.Need-cast-next-flip (keep-claims t) (keep-at t) keep.Post keep-Inv-loop keep-μ-loop
 keep-cast-next-flip t c = search needs
 
-keep-next-flip-requires-2 : (t : ℕ) → keep-lts.Need-next-flip-requires-2 (
-  pattern-reads.Asked,
-  pattern-reads.Learnt,
-  slot-reads.Asked,
-  slot-reads.Learnt,
-  next-flip-reads.Asked,
-  next-flip-reads.Learnt,
-  flip-below t,
-  flip.Post,
-) (keep-at t) keep.Post keep-Inv-loop keep-μ-loop
+keep-next-flip-requires-2 : (t : ℕ) → keep-lts.Need-next-flip-requires-2 (keep-claims t) (keep-at t) keep.Post keep-Inv-loop keep-μ-loop
 keep-next-flip-requires-2 t c κs =
     let s = c .before .before .before .before .before .before .before .before .before .before .before in
     let a = s .args in
@@ -329,35 +197,19 @@ keep-next-flip-requires-2 t c κs =
     let l = c .before .before .before .before .before .before .loop in
     let some : a .rank .0 < l .end .0 = c .before .before .before .if2 .taken in
     let low : l .end .0 - 1 < a .p .size = omega (arith, l .inv .1) in
-    let tab = tabled t (c .before .before .before .before .before .before .before .before .before .before) in (
+    let some-left = c .before .before .before .before .before .before .before .before .before .before in (
       omega arith,
       omega (arith, pre .0 .0 .sizes),
+      ne-pos (a .may) (some-left .if1 .left),
       omega (arith, pre .0 .0 .sizes),
-      at-after (a .p) _ _ tab (a .flips .ranks) (a .flips .part) (pre .0 .2 .part) (l .end .0 - 1) (a .may) low (λ one. l .inv .2 one some),
+      at-after (a .p) _ _ (tabled t some-left) (a .flips .ranks) (a .flips .part) (pre .0 .2 .part) (l .end .0 - 1) (a .may) low
+          (λ one. l .inv .2 one some),
     )
 
-keep-loop-less : (t : ℕ) → keep-lts.Need-loop-less (
-  pattern-reads.Asked,
-  pattern-reads.Learnt,
-  slot-reads.Asked,
-  slot-reads.Learnt,
-  next-flip-reads.Asked,
-  next-flip-reads.Learnt,
-  flip-below t,
-  flip.Post,
-) (keep-at t) keep.Post keep-Inv-loop keep-μ-loop
+keep-loop-less : (t : ℕ) → keep-lts.Need-loop-less (keep-claims t) (keep-at t) keep.Post keep-Inv-loop keep-μ-loop
 keep-loop-less t c = omega (arith, c .next-flip2 .ensures .high, c .before .before .before .before .if2 .taken)
 
-keep-loop-again : (t : ℕ) → keep-lts.Need-loop-again (
-  pattern-reads.Asked,
-  pattern-reads.Learnt,
-  slot-reads.Asked,
-  slot-reads.Learnt,
-  next-flip-reads.Asked,
-  next-flip-reads.Learnt,
-  flip-below t,
-  flip.Post,
-) (keep-at t) keep.Post keep-Inv-loop keep-μ-loop
+keep-loop-again : (t : ℕ) → keep-lts.Need-loop-again (keep-claims t) (keep-at t) keep.Post keep-Inv-loop keep-μ-loop
 keep-loop-again t c =
     let i = c .before .before .before .before .before .before .before .before .before .before .before in
     let s = i .before in
@@ -374,16 +226,7 @@ keep-loop-again t c =
           (l .inv .3 x e) (c .before .before .flip .ensures),
     )
 
-keep-returns-2 : (t : ℕ) → keep-lts.Need-returns-2 (
-  pattern-reads.Asked,
-  pattern-reads.Learnt,
-  slot-reads.Asked,
-  slot-reads.Learnt,
-  next-flip-reads.Asked,
-  next-flip-reads.Learnt,
-  flip-below t,
-  flip.Post,
-) (keep-at t) keep.Post keep-Inv-loop keep-μ-loop
+keep-returns-2 : (t : ℕ) → keep-lts.Need-returns-2 (keep-claims t) (keep-at t) keep.Post keep-Inv-loop keep-μ-loop
 keep-returns-2 t c =
     let a = c .before .before .before .before .before .before .before .before .args in
     let l = c .before .before .before .loop in
@@ -392,12 +235,7 @@ keep-returns-2 t c =
     ∙ ap (λ (n : ℕ). over (a .p) n (a .may) (a .flips .ranks) (asBest (a .best))) end
 
 pub +flip+keep-spec : {M : Type 1} → statement M
-+flip+keep-spec = close μ-flip μ-keep (λ t. flip-lts.spec (
-  with-reads.Asked,
-  with-reads.Learnt,
-  keep-below t,
-  keep.Post,
-)
++flip+keep-spec = close μ-flip μ-keep (λ t. flip-lts.spec (flip-claims t)
     (flip-at t)
     flip.Post
     (flip-cast-i t)
@@ -408,16 +246,7 @@ pub +flip+keep-spec : {M : Type 1} → statement M
     (flip-sub-keep t)
     (flip-keep-requires t)
     (flip-returns t))
-    λ t. keep-lts.spec (
-      pattern-reads.Asked,
-      pattern-reads.Learnt,
-      slot-reads.Asked,
-      slot-reads.Learnt,
-      next-flip-reads.Asked,
-      next-flip-reads.Learnt,
-      flip-below t,
-      flip.Post,
-    )
+    λ t. keep-lts.spec (keep-claims t)
     (keep-at t)
     keep.Post
     keep-Inv-loop

@@ -66,7 +66,7 @@ keep-requires c κs =
         refl,
         record { low = pow-pos (p .size); part = n .before .base-part .ensures ∙ sym (part-start (planOf p) (told p)) },
         all-linked p (s .args .order) _ _ _ (s .pre .0 .sizes) (parts .parts-of .ensures) (chain .chain .ensures)
-            (chain .before .linked .ensures .1),
+            (chain .before .linked .ensures .2),
       ),
       (omega arith, room (p .size) (s .args .order) _ (s .pre .0 .sizes) (s .pre .1) (n .none .ensures)),
     )
