@@ -20,9 +20,9 @@ pub fn gather(order: [Position; 63], reliability: &[u8; 63], hards: u64, n: usiz
     let mut i = n;
     while 0 < i {
         i -= 1;
-        let position = order[i];
-        weight[i] = reliability[position.0 as usize];
-        bits = bits * 2 + (hards >> position.0) % 2;
+        let position = order[i].0 as usize;
+        weight[i] = reliability[position];
+        bits = bits * 2 + (hards >> position) % 2;
     }
     ByRank { weight, bits }
 }

@@ -120,11 +120,6 @@ one t c =
     let pre = c .pre .1 in
     (pre .0 .0, pre .0 .1, pre .0 .2 .low, omega (arith, pre .1 .1, patterns-pos (a .p .size - a .rank .0) (a .may)))
 
--- a flip is left, so the ranks are linked
-tabled : (t : ℕ) (c : keep-lts.Else1 (keep-claims t) (keep-at t) keep.Post keep-Inv-loop keep-μ-loop)
-    → Tabled (c .before .args .p) (c .before .args .parts .now) (c .before .args .chains .now)
-tabled t c = c .before .pre .1 .0 .3 (ne-pos (c .before .args .may) (c .if1 .left))
-
 keep-pattern-requires : (t : ℕ) → keep-lts.Need-pattern-requires (keep-claims t) (keep-at t) keep.Post keep-Inv-loop keep-μ-loop
 keep-pattern-requires t c κs = one t (c .before)
 
@@ -138,6 +133,11 @@ keep-returns t c =
 keep-pattern-requires-2 : (t : ℕ) → keep-lts.Need-pattern-requires-2 (keep-claims t) (keep-at t) keep.Post keep-Inv-loop keep-μ-loop
 keep-pattern-requires-2 t c κs = one t (c .before)
 
+-- a flip is left, so the ranks are linked
+tabled : (t : ℕ) (c : keep-lts.Else1 (keep-claims t) (keep-at t) keep.Post keep-Inv-loop keep-μ-loop)
+    → Tabled (c .before .args .p) (c .before .args .parts .now) (c .before .args .chains .now)
+tabled t c = c .before .pre .1 .0 .3 (ne-pos (c .before .args .may) (c .if1 .left))
+
 keep-slot-requires : (t : ℕ) → keep-lts.Need-slot-requires (keep-claims t) (keep-at t) keep.Post keep-Inv-loop keep-μ-loop
 keep-slot-requires t c κs = search needs
 
@@ -148,7 +148,8 @@ keep-next-flip-requires t c κs =
     let pre = s .pre .1 in
     let tab = tabled t (c .before .before) in
     let at = at-first (a .p) _ _ tab (a .flips .ranks) (a .flips .part) (pre .0 .2 .part) _ (a .may) (c .slot .ensures .0) in
-    (pre .1 .0, omega (arith, pre .0 .0 .sizes), ne-pos (a .may) (c .before .before .if1 .left), c .slot .ensures .1, at)
+    let some = ne-pos (a .may) (c .before .before .if1 .left) in
+    (omega (arith, pre .1 .0), omega (arith, pre .1 .0, pre .0 .0 .sizes), some, c .slot .ensures .1, at)
 
 keep-loop-holds : (t : ℕ) → keep-lts.Need-loop-holds (keep-claims t) (keep-at t) keep.Post keep-Inv-loop keep-μ-loop
 keep-loop-holds t c =

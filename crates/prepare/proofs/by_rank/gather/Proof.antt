@@ -79,37 +79,34 @@ loop-holds c =
 sub-i : tie.Need-sub-i Inv-loop μ-loop
 sub-i c = omega arith
 
-array-copy-out-position : tie.Need-array-copy-out-position Inv-loop μ-loop
-array-copy-out-position c = omega arith
+element-copy-out-position : tie.Need-element-copy-out-position Inv-loop μ-loop
+element-copy-out-position c = omega arith
 
-cast-weight : tie.Need-cast-weight Inv-loop μ-loop
-cast-weight c = omega (arith, placed (c .before .before))
+cast-position : tie.Need-cast-position Inv-loop μ-loop
+cast-position c = omega (arith, placed c)
 
 element-copy-out-weight : tie.Need-element-copy-out-weight Inv-loop μ-loop
-element-copy-out-weight c = omega (arith, placed (c .before .before))
+element-copy-out-weight c = omega (arith, placed c)
 
 array-write-weight : tie.Need-array-write-weight Inv-loop μ-loop
 array-write-weight c = omega arith
 
 mul-bits : tie.Need-mul-bits Inv-loop μ-loop
-mul-bits c = omega (arith, fits (c .before .before .before))
-
-cast-bits : tie.Need-cast-bits Inv-loop μ-loop
-cast-bits c = omega (arith, placed (c .before .before .before .before))
+mul-bits c = omega (arith, fits (c .before))
 
 shr-bits : tie.Need-shr-bits Inv-loop μ-loop
-shr-bits c = omega (arith, placed (c .before .before .before .before))
+shr-bits c = omega (arith, placed (c .before))
 
 add-bits : tie.Need-add-bits Inv-loop μ-loop
-add-bits c = omega (arith, fits (c .before .before .before .before))
+add-bits c = omega (arith, fits (c .before))
 
 loop-less : tie.Need-loop-less Inv-loop μ-loop
 loop-less c = omega arith
 
 loop-again : tie.Need-loop-again Inv-loop μ-loop
 loop-again c =
-    let a = c .before .before .before .before .before .before .args in
-    let l = c .before .before .before .before .before .loop in (
+    let a = c .before .before .before .args in
+    let l = c .before .before .loop in (
       omega arith,
       from-more (a .n) (valueAt (a .reliability .now) (a .t1)) (l .i) (l .weight) (omega arith) (omega arith) (omega arith) (l .inv .1),
       next (a .hards) (a .n) (a .t1) (l .bits) (l .i) (omega arith) (omega arith) (l .inv .2),
@@ -134,12 +131,11 @@ gather-spec =
     μ-loop
     loop-holds
     sub-i
-    array-copy-out-position
-    cast-weight
+    element-copy-out-position
+    cast-position
     element-copy-out-weight
     array-write-weight
     mul-bits
-    cast-bits
     shr-bits
     add-bits
     loop-less
