@@ -2,7 +2,7 @@
 # Holds the calls that C hosts link against another implementation, and measures them:
 #     bench/run.sh                   compare, run the example, print instructions, time, entered patterns and stack
 #     bench/run.sh picture [WORDS]   draw docs/word-error-rate.svg with this many words a point (20000)
-# Needs rt, gcc and rustc, and valgrind for the instructions. What it builds goes to a temporary folder.
+# Needs rt, gcc and rustc, and valgrind for the instructions and the entered patterns. What it builds goes to a temporary folder.
 set -e
 cd "$(dirname "$0")/.."
 library=target/staticlib/libexport.a

@@ -72,7 +72,7 @@ impl Best {
         }
     }
 
-    // Whether a candidate is found that is nearer than this distance.
+    // Whether a candidate is found that is nearer than this distance. Only a yes is promised: a no costs time, and no answer.
     pub fn nearer(self, distance: u16) -> bool
         ensures { λ r. ⌜ (r ≡ true → (self .found ≡ true) × (self .distance < distance)) ⌝ }
     {

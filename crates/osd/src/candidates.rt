@@ -73,8 +73,8 @@ fn candidate(p: Prepared, ranks: u64, best: Best) -> Best
 }
 
 // The best with one more pattern seen, that in which the ranks of `flips` are flipped: it is dropped at its first symbol other than 0 or
-// 1, which is known when the inner loop has no flip left, and from there both loops are left. The symbols are those of the prepared word,
-// lent, since from the struct they would be copied at each pattern.
+// 1, which is known when the inner loop has no flip left, and from there both loops are left. The table `symbols` is that of the prepared
+// word, lent, since from the struct it would be copied at each pattern.
 pub fn pattern<'a>(p: Prepared, symbols: &'a [u8; 378], flips: u64, best: Best) -> Best
     requires { ⌜ Fits (planOf p) × (now symbols ≡ p .symbols) × (flips < 2 ^ p .size) × (best .count < 100000) ⌝ }
     ensures { λ r. ⌜ asBest r ≡ tried (planOf p) flips (asBest best) ⌝ }

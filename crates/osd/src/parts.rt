@@ -1,5 +1,5 @@
 // The non-binary parts of the columns of the symbol table: what tells a flip that leads to no candidate. Rows are four bits apart, and at
-// m = 6 a symbol has five: neighbours overlap in a bit, so that a part of 0 may yet be that of a pattern that is dropped.
+// m = 6 a symbol's part has five: neighbouring rows overlap in a bit, so that a part of 0 may yet be that of a pattern that is dropped.
 ghost use mathlib.Core.Path.{_≡_};
 ghost use Prim.Native.Nat.{_*_, _/_, _^_, _≤_, _<_};
 ghost use lib.ListN.{length, getD};

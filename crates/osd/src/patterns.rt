@@ -32,8 +32,9 @@ fn linked(size: u8, order: u8) -> usize
 
 // The best over the patterns of the ranks from `rank` on with at most `may` flips among them, after the flips that are made. The
 // definition keeps each rank before it flips it, from `rank` on: so it comes first to the pattern that keeps them all, then to those whose
-// first flip is the last rank, then to those whose first flip is the rank before that. The same here: the pattern with all of them kept,
-// then `flip` for the first flips from the last rank back, but for those that lead to no candidate.
+// first flip is the last rank, then to those whose first flip is the rank before that. The same here: the pattern with all of them
+// kept, then `flip` for each rank as the first flip, from the last one back, but for those that `next_flip` passes over, which lead to
+// no candidate.
 fn keep<'a>(
     p: Prepared,
     rank: Rank,
@@ -49,7 +50,7 @@ fn keep<'a>(
     ensures { λ r. ⌜ asBest r ≡ bestOver (λ i. i) (tried (planOf p)) (p .size - rank .0) (rank .0) may (flips .ranks) (asBest best) ⌝ }
 {
     // With no flip left the pattern is all. `pattern` is called here and below, since a function that is called in one place alone is
-    // compiled into its caller, and keep would then copy the prepared word whenever it calls itself.
+    // compiled into its caller, and keep would then copy the prepared word at each call of flip.
     if may == 0 {
         return pattern(p, symbols, flips.ranks, best);
     }
@@ -86,8 +87,8 @@ fn flip<'a>(
     keep(p, next, may - 1, made, best, symbols, parts, chains)
 }
 
-// The best over all patterns of the reliable ranks with at most `order` flips. What is lent is built once, at order 0 too, where it is not
-// read: so keep is entered in one way at every order.
+// The best over all patterns of the reliable ranks with at most `order` flips. Parts and chains are made at order 0 too, the chains empty,
+// though nothing reads them there: so keep is entered in one way at every order.
 pub fn search(p: Prepared, order: u8) -> Best
     requires { ⌜ Fits (planOf p) × (order ≤ 3) ⌝ }
     ensures { λ r. ⌜ asBest r ≡ rankSearched (planOf p) order ⌝ }

@@ -77,7 +77,7 @@ fn put_column(
     }
 }
 
-// All columns, along the order itself, as `gather` goes.
+// All columns, from rank 0 on. Like `gather` it goes along the order itself, since a call of `position_at` would copy it at each turn.
 pub fn symbol_table(m: u8, order: [Position; 63], n: usize, size: usize, rows: usize) -> [u8; 378]
     requires { ⌜ Numbered m n size rows (placeIn order) ⌝ }
     ensures { λ r. ⌜ Cells m size rows (placeIn order) r ⌝ }

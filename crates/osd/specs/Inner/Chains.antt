@@ -37,7 +37,7 @@ pub record Shut (chains : List ℕ) (i z : ℕ) : Type 0 where
   pub some : z ≡ 0 → ⊥
   pub none : getD chains (slotOf z) 0 ≤ i
 
--- with one flip left, the chains have at `at` the last rank before `to` that has the part's slot
+-- with one flip left, the chains have at `at` one more than the last rank before `to` that has the part's slot, 0 where none has
 abbrev pub At : List ℕ → List ℕ → ℕ → ℕ → ℕ → ℕ → Type 0
 At parts chains part to at may = may ≡ 1 → getD chains at 0 ≡ lastIn parts to (slotOf part)
 
