@@ -106,7 +106,7 @@ fn instructions(file: &str, case: usize) -> f64 {
 fn entered(file: &str, case: usize) -> f64 {
     let text = dump(file, case);
     let number = |line: &str| line.split_once('(').and_then(|(_, rest)| rest.split_once(')')).map(|(id, _)| id.to_string());
-    let pattern = text.lines().find(|l| l.ends_with(") osd::candidates::pattern")).and_then(number);
+    let pattern = text.lines().find(|l| l.ends_with(") candidates::pattern::pattern")).and_then(number);
     let (mut here, mut calls) = (false, 0.0);
     for line in text.lines() {
         if line.starts_with("cfn=") {

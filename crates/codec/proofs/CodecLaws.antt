@@ -15,11 +15,12 @@ use Rattle.codes.specs.Generator.{remainderBy, withParity, systematic}
 use Rattle.codes.proofs.ShapeLaws.{length-small, parity-full}
 use Rattle.codes.proofs.WordLaws.{below-div, high-lt, high-below}
 use Rattle.codes.proofs.SystematicWord.{systematic-high, systematic-codeword, codeword-high}
-use Rattle.frame.specs.Packing.{written, wordIn}
+use Rattle.words.specs.Packing.{written, wordIn}
 use Rattle.frame.specs.Refusal.{encodeRefusal, readRefusal}
 use Rattle.frame.proofs.RefusalLaws.{EncodePassed, ReadPassed, encode-passed, read-passed}
 use Rattle.codec.specs.Encode.{EncodeAnswers}
-use Rattle.codec.specs.Read.{ReadAnswers, says}
+use Rattle.codec.specs.Read.{ReadAnswers}
+use Rattle.codec.specs.Call.{says}
 
 -- the message moved up by the parity bits is a word of n bits
 module _ (m t M : ℕ) (k : Known m t) (h : M < 2 ^ dimensionOf m t) where
@@ -32,7 +33,8 @@ module _ (m t M : ℕ) (k : Known m t) (h : M < 2 ^ dimensionOf m t) where
       let e : dimensionOf m t + parityOf m t ≡ parityOf m t + dimensionOf m t = omega arith in
       subst (λ (x : ℕ). M * 2 ^ parityOf m t < 2 ^ x) e (shl-lt (dimensionOf m t) (parityOf m t) h)
 
-pub systematic-is : (m t M : ℕ) → M * 2 ^ parityOf m t ⊕ remainderBy (parityOf m t) (generatorOf m t) (dimensionOf m t) (M * 2 ^ parityOf m t) ≡ systematic m t M
+pub systematic-is : (m t M : ℕ)
+    → M * 2 ^ parityOf m t ⊕ remainderBy (parityOf m t) (generatorOf m t) (dimensionOf m t) (M * 2 ^ parityOf m t) ≡ systematic m t M
 unfolding systematic withParity
 systematic-is m t M = refl
 
@@ -47,15 +49,19 @@ module _ (m t s message : ℕ) (before : List ℕ) (N : ℕ) (e : N ≡ encodeRe
     pub encode-small : message < 2 ^ dimensionOf m t
     encode-small = le-trans (encode-checked .small) (pow-mono {i = dimensionOf m t - s} (omega arith))
 
-    pub encode-writes : (word : ℕ) (after : List ℕ) → word ≡ systematic m t message → after ≡ written m word before → EncodeAnswers m t s message before 0 after
+    pub encode-writes : (word : ℕ) (after : List ℕ) → word ≡ systematic m t message → after ≡ written m word before
+        → EncodeAnswers m t s message before 0 after
     encode-writes word after q w =
         EncodeAnswers.encoded (sym e ∙ omega arith) refl (record {
           word = systematic m t message;
           codeword = systematic-codeword m t message (encode-checked .known) encode-small;
           high = systematic-high m t message (encode-checked .known) encode-small;
-          unsent = subst (λ (x : ℕ). systematic m t message < 2 ^ x) (omega (arith, parity-full m t (encode-checked .known), encode-checked .short))
+          unsent =
+              subst (λ (x : ℕ). systematic m t message < 2 ^ x)
+              (omega (arith, parity-full m t (encode-checked .known), encode-checked .short))
               (high-lt (systematic m t message) (parityOf m t) (dimensionOf m t - s)
-              (subst (λ (x : ℕ). x < 2 ^ (dimensionOf m t - s)) (sym (systematic-high m t message (encode-checked .known) encode-small)) (encode-checked .small)));
+              (subst (λ (x : ℕ). x < 2 ^ (dimensionOf m t - s)) (sym (systematic-high m t message (encode-checked .known) encode-small))
+              (encode-checked .small)));
           writes = w ∙ ap (λ (x : ℕ). written m x before) q;
         })
 
@@ -92,11 +98,14 @@ module _ (m t s : ℕ) (bytes : List ℕ) (N : ℕ) (e : N ≡ readRefusal m t s
         read-other n =
             ReadAnswers.unreadable passes
             (λ r. n (q ∙ codeword-high m t (read-checked .known) (systematic m t (wordIn m bytes / 2 ^ parityOf m t)) (wordIn m bytes)
-            (systematic-codeword m t _ (read-checked .known) read-message-lt) (r .codeword) (systematic-high m t _ (read-checked .known) read-message-lt))) refl
+            (systematic-codeword m t _ (read-checked .known) read-message-lt) (r .codeword)
+            (systematic-high m t _ (read-checked .known) read-message-lt))) refl
 
         pub read-takes : word ≡ wordIn m bytes → ReadAnswers m t s bytes (says 0 (wordIn m bytes / 2 ^ parityOf m t))
         read-takes w =
             ReadAnswers.taken passes (record {
-              codeword = subst (Codeword m t) (sym q ∙ w) (systematic-codeword m t (wordIn m bytes / 2 ^ parityOf m t) (read-checked .known) read-message-lt);
+              codeword =
+                  subst (Codeword m t) (sym q ∙ w)
+                  (systematic-codeword m t (wordIn m bytes / 2 ^ parityOf m t) (read-checked .known) read-message-lt);
               unsent = sent;
             }) refl

@@ -4,7 +4,7 @@ use mathlib.Core.List.{List}
 use Prim.Native.Nat.{ℕ}
 use lib.ListN.{length}
 use Rattle.codes.proofs.SystematicWord.{codeword-high}
-use Rattle.frame.specs.Packing.{written}
+use Rattle.words.specs.Packing.{written}
 use Rattle.frame.proofs.RefusalLaws.{encode-known}
 use Rattle.codec.specs.Encode.{EncodeAnswers, refused, encoded}
 use Rattle.codec.specs.Read.{ReadAnswers}
@@ -19,7 +19,8 @@ encode-one-answer m t s message before a b after other (encoded e h u) (encoded 
   h ∙ sym k,
   u .writes
       ∙ ap (λ (x : ℕ). written m x before)
-      (codeword-high m t (encode-known m t s message (length before) e) (u .word) (v .word) (u .codeword) (v .codeword) (u .high ∙ sym (v .high)))
+      (codeword-high m t (encode-known m t s message (length before) e) (u .word) (v .word) (u .codeword) (v .codeword)
+      (u .high ∙ sym (v .high)))
       ∙ sym (v .writes),
 )
 

@@ -88,13 +88,15 @@ module _ (d g : ℕ) where
 
         moved-down : moved / 2 ≡ g * 2 ^ j
         moved-down =
-            ap (λ (x : ℕ). x / 2) (before .generator ∙ ap (λ (x : ℕ). g * 2 ^ x) next ∙ ap (λ (x : ℕ). g * x) (pow-suc 2 j) ∙ sym (mul-assoc g (2 ^ j) 2))
+            ap (λ (x : ℕ). x / 2) (before .generator ∙ ap (λ (x : ℕ). g * 2 ^ x) next ∙ ap (λ (x : ℕ). g * x) (pow-suc 2 j)
+            ∙ sym (mul-assoc g (2 ^ j) 2))
             ∙ mul-div-cancel (g * 2 ^ j) (omega arith)
 
         -- the generator's highest coefficient is at the place d + j
         moved-one : moved / 2 / 2 ^ (d + j) ≡ 1
         moved-one =
-            ap (λ (x : ℕ). x / 2 ^ (d + j)) moved-down ∙ ap (λ (x : ℕ). g * 2 ^ j / x) (pow-add 2 d j) ∙ mul-div-mul-right g (2 ^ d) (pow-pos j) ∙ one
+            ap (λ (x : ℕ). x / 2 ^ (d + j)) moved-down ∙ ap (λ (x : ℕ). g * 2 ^ j / x) (pow-add 2 d j)
+            ∙ mul-div-mul-right g (2 ^ d) (pow-pos j) ∙ one
 
         left-small : left < 2 * 2 ^ (d + j)
         left-small =
@@ -111,7 +113,9 @@ module _ (d g : ℕ) where
               at = omega (arith, before .at);
               small = t .1;
               generator = moved-down;
-              same = same-by (left ⊕ moved / 2) (remainder-there j left (t .0) ∙ ap (λ (x : ℕ). remainderBy d g j (left ⊕ x)) (sym moved-down));
+              same =
+                  same-by (left ⊕ moved / 2) (remainder-there j left (t .0)
+                  ∙ ap (λ (x : ℕ). remainderBy d g j (left ⊕ x)) (sym moved-down));
             }
 
         pub let-be : left ≤ left ⊕ moved / 2 → Dividing j left (moved / 2)

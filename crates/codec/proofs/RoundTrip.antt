@@ -8,22 +8,25 @@ use Rattle.codes.specs.Code.{dimensionOf, parityOf}
 use Rattle.codes.proofs.WordLaws.{high-below}
 use Rattle.codes.proofs.ShapeLaws.{parity-full}
 use Rattle.codes.proofs.SystematicWord.{codeword-high}
-use Rattle.frame.specs.Packing.{written, wordIn}
+use Rattle.words.specs.Packing.{written, wordIn}
 use Rattle.frame.specs.Refusal.{encodeRefusal, readRefusal}
-use Rattle.frame.proofs.PackingLaws.{written-length, written-read, written-same}
+use Rattle.words.proofs.PackingLaws.{written-length, written-read, written-same}
 use Rattle.frame.proofs.RefusalLaws.{EncodePassed, ReadPassed, encode-passed, read-passed}
 use Rattle.frame.proofs.RefusalSteps.{encode-passes, read-passes}
 use Rattle.codec.specs.Encode.{Encoded, EncodeAnswers, refused, encoded}
-use Rattle.codec.specs.Read.{Readable, ReadAnswers, says}
+use Rattle.codec.specs.Read.{Readable, ReadAnswers}
+use Rattle.codec.specs.Call.{says}
 use Rattle.codec.specs.declared.Reading.{Reading}
 use Rattle.codec.proofs.CodecOneAnswer.{read-one-answer}
 
-module _ (m t s message : ℕ) (before after : List ℕ) (e : encodeRefusal m t s message (length before) ≡ 0) (h : Encoded m t s message before after) where
+module _ (m t s message : ℕ) (before after : List ℕ) (e : encodeRefusal m t s message (length before) ≡ 0)
+    (h : Encoded m t s message before after) where
   passed : EncodePassed m t s message (length before)
   passed = encode-passed m t s message (length before) e
 
   word-in-is : wordIn m after ≡ h .word
-  word-in-is = ap (wordIn m) (h .writes) ∙ written-read m (h .word) before (passed .known .m-low) (passed .known .m-high) (h .codeword .bits)
+  word-in-is =
+      ap (wordIn m) (h .writes) ∙ written-read m (h .word) before (passed .known .m-low) (passed .known .m-high) (h .codeword .bits)
 
   same-length : length after ≡ length before
   same-length = ap length (h .writes) ∙ written-length m (h .word) before (passed .room)
@@ -42,7 +45,8 @@ encode-then-read m t s message before after answer (encoded e _ h) r =
     read-one-answer m t s after answer (says 0 message) r (encoded-read m t s message before after e h)
 
 -- what stands in the buffer is written there again, so that no byte changes
-module _ (m t s : ℕ) (bytes : List ℕ) (small : (i : ℕ) → getD bytes i 0 < 256) (e : readRefusal m t s (length bytes) ≡ 0) (r : Readable m t s (wordIn m bytes)) where
+module _ (m t s : ℕ) (bytes : List ℕ) (small : (i : ℕ) → getD bytes i 0 < 256) (e : readRefusal m t s (length bytes) ≡ 0)
+    (r : Readable m t s (wordIn m bytes)) where
   checked : ReadPassed m t s (length bytes)
   checked = read-passed m t s (length bytes) e
 
@@ -61,7 +65,8 @@ module _ (m t s : ℕ) (bytes : List ℕ) (small : (i : ℕ) → getD bytes i 0 
   written-again answer after (refused n _ _) = absurd (n passes)
   written-again answer after (encoded _ q h) = (
     q,
-    h .writes ∙ ap (λ (x : ℕ). written m x bytes) (codeword-high m t (checked .known) (h .word) (wordIn m bytes) (h .codeword) (r .codeword) (h .high))
+    h .writes ∙ ap (λ (x : ℕ). written m x bytes)
+        (codeword-high m t (checked .known) (h .word) (wordIn m bytes) (h .codeword) (r .codeword) (h .high))
         ∙ written-same m (wordIn m bytes) bytes (checked .room) (λ i _. small i) refl,
   )
 

@@ -11,7 +11,7 @@ use lib.ListN.{length}
 use Rattle.field.specs.Field.{lengthOf}
 use Rattle.codes.specs.Code.{parityOf}
 use Rattle.codes.specs.Codeword.{Codeword}
-use Rattle.frame.specs.Packing.{written}
+use Rattle.words.specs.Packing.{written}
 use Rattle.frame.specs.Refusal.{encodeRefusal}
 
 -- "Message bit i stands at position n-k+i, for i below k-s; the unsent positions are 0; the low n-k positions are the parity

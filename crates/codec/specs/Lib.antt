@@ -1,2 +1,4 @@
+pub mod Call
 pub mod Encode
 pub mod Read
+pub mod Called

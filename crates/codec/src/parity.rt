@@ -31,7 +31,7 @@ pub fn parity_bits(m: u16, t: u16) -> usize
     requires { ⌜ Known m t ⌝ }
     ensures { λ r. ⌜ (r ≡ parityOf m t) × (r + dimensionOf m t ≤ 63) ⌝ }
 {
-    frame::length_of(m) - frame::dimension_of(m, t)
+    words::length_of(m) - words::dimension_of(m, t)
 }
 
 // What is left of a word when it is divided by the generator. At each place from the top, of what is left and its sum with the generator
@@ -41,7 +41,7 @@ fn remainder(m: u16, t: u16, word: u64) -> u64
     ensures { λ r. ⌜ r ≡ remainderBy (parityOf m t) (generatorOf m t) (dimensionOf m t) word ⌝ }
 {
     let mut left = word;
-    let mut i = frame::dimension_of(m, t);
+    let mut i = words::dimension_of(m, t);
     let mut moved = generator_of(m, t) << i;
     while 0 < i {
         i -= 1;

@@ -1,7 +1,7 @@
 -- Words of the paper, computed: message 1 in each code whose bytes document 01 gives, and the table of k. Assumes nothing.
 use mathlib.Core.Path.{_≡_, refl}
 use Rattle.field.specs.Field.{_⊕_, bitTimes, lengthOf}
-use Rattle.codes.specs.Word.{bitOf}
+use Rattle.codes.specs.Codeword.{bitOf}
 use Rattle.codes.specs.Code.{entryOf, dimensionOf, parityOf, generatorOf}
 use Rattle.codes.specs.Generator.{remainderBy, withParity, systematic}
 

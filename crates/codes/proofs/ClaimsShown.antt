@@ -12,7 +12,8 @@ use Rattle.codes.specs.Code.{dimensionOf, parityOf, generatorOf}
 use Rattle.codes.specs.Codeword.{Codeword}
 use Rattle.codes.specs.Lagrange.{others, quotients, cell}
 use Rattle.codes.specs.Generator.{multiple, systematic}
-use Rattle.codes.specs.Claims.{GeneratorsAreRight, OneWordForEachMessage, CodewordsAreApart, PlacesFixAWord, CellsAreThePapers, CellsAreShort}
+use Rattle.codes.specs.Claims.{GeneratorsAreRight, OneWordForEachMessage, CodewordsAreApart, PlacesFixAWord, CellsAreThePapers}
+use Rattle.codes.specs.Claims.{CellsAreShort}
 use Rattle.codes.proofs.RootLaws.{one-lt}
 use Rattle.codes.proofs.LagrangeLaws.{roots→lagrange, lagrange→roots}
 use Rattle.codes.proofs.ShortForm.{cell-is-short}

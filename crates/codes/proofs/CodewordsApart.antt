@@ -14,8 +14,7 @@ use Rattle.field.specs.Field.{_⊕_, lengthOf}
 use Rattle.field.specs.Laws.{Laws}
 use Rattle.field.proofs.TestLaws.{ne→not}
 use Rattle.field.proofs.XorLaws.{xor-zero, xor-self, xor-eq, xor-lt}
-use Rattle.codes.specs.Word.{bitOf}
-use Rattle.codes.specs.Codeword.{RootsFrom}
+use Rattle.codes.specs.Codeword.{bitOf, RootsFrom}
 use Rattle.codes.proofs.WordLaws.{bit-xor, bits-zero}
 use Rattle.codes.proofs.RootLaws.{vanish}
 use Rattle.codes.proofs.Conjugates.{bit-elem}
@@ -65,7 +64,8 @@ module _ (n : ℕ) (t : ℕ → Bool) (l : List ℕ) (L : Lists n t l) where
   none-more f = record {
     low = λ j h. omega (arith, L .low j h);
     apart = L .apart;
-    reached = λ p h s. ⊎-elim (λ e. absurd (f (subst (λ (x : ℕ). T (t x)) e s))) (λ c. L .reached p c s) (eq-or-lt-of-le (le-of-suc-le-suc h));
+    reached =
+        λ p h s. ⊎-elim (λ e. absurd (f (subst (λ (x : ℕ). T (t x)) e s))) (λ c. L .reached p c s) (eq-or-lt-of-le (le-of-suc-le-suc h));
   }
 
 lists : (n : ℕ) (t : ℕ → Bool) → Lists n t (valuesWhere n t (λ p. p))
@@ -73,7 +73,8 @@ unfolding valuesWhere
 lists zero t = record { low = λ j h. absurd (omega arith); apart = λ i j h. absurd (omega arith); reached = λ p h. absurd (omega arith) }
 lists (suc n) t = go (t n) refl (lists n t)
   where
-    go : (b : Bool) → t n ≡ b → Lists n t (valuesWhere n t (λ p. p)) → Lists (suc n) t (cond b (n ∷ valuesWhere n t (λ p. p)) (valuesWhere n t (λ p. p)))
+    go : (b : Bool) → t n ≡ b → Lists n t (valuesWhere n t (λ p. p))
+        → Lists (suc n) t (cond b (n ∷ valuesWhere n t (λ p. p)) (valuesWhere n t (λ p. p)))
     go true e L = one-more n t _ L
     go false e L = none-more n t _ L (λ s. subst T e s)
 

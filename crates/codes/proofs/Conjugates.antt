@@ -9,8 +9,7 @@ use Rattle.field.specs.Field.{_⊕_, xorSum, times, alphaTo, lengthOf}
 use Rattle.field.specs.Laws.{Laws}
 use Rattle.field.proofs.XorSumLaws.{xorsum-cong, xorsum-head, xorsum-short}
 use Rattle.field.proofs.RingLaws.{left-comm, times-zero, zero-times, ring}
-use Rattle.codes.specs.Word.{bitOf}
-use Rattle.codes.specs.Codeword.{valueAt, ZeroFrom}
+use Rattle.codes.specs.Codeword.{bitOf, valueAt, ZeroFrom}
 use Rattle.codes.proofs.WordLaws.{bit-lt, bit-high, bits-zero}
 use Rattle.codes.proofs.RootLaws.{xorsum-times, pw-lt, pw-round, one-lt}
 use Rattle.codes.proofs.PolynomialLaws.{evaluate, Zeros, Elements, many-roots}
@@ -43,13 +42,15 @@ module _ (m : ℕ) (F : Laws m) where
   later y p e = left-comm m F (alphaTo m e) y (alphaTo m (p * e)) ∙ ap (times m y) (sym (pw-add e (p * e)) ∙ ap (alphaTo m) (omega arith))
 
   -- by Horner's rule
-  pub evaluate-sum : (k : ℕ) (c : ℕ → ℕ) → ((p : ℕ) → c p < 2 ^ m) → (e : ℕ) → evaluate m (listOf k c) (alphaTo m e) ≡ xorSum k (λ p. times m (c p) (alphaTo m (p * e)))
+  pub evaluate-sum : (k : ℕ) (c : ℕ → ℕ) → ((p : ℕ) → c p < 2 ^ m) → (e : ℕ)
+      → evaluate m (listOf k c) (alphaTo m e) ≡ xorSum k (λ p. times m (c p) (alphaTo m (p * e)))
   unfolding evaluate listOf xorSum
   evaluate-sum zero c h e = refl
   evaluate-sum (suc k) c h e =
       ap (λ (u : ℕ). c 0 ⊕ times m (alphaTo m e) u) (evaluate-sum k (λ p. c (suc p)) (λ p. h (suc p)) e)
       ∙ ap₂ _⊕_ (sym (one (c 0) (h 0)) ∙ ap (times m (c 0)) (sym pw-zero ∙ ap (alphaTo m) (omega arith)))
-      (sym (xorsum-times m F k (alphaTo m e) (λ p. times m (c (suc p)) (alphaTo m (p * e)))) ∙ xorsum-cong k _ _ (λ p _. later (c (suc p)) p e))
+      (sym (xorsum-times m F k (alphaTo m e) (λ p. times m (c (suc p)) (alphaTo m (p * e))))
+      ∙ xorsum-cong k _ _ (λ p _. later (c (suc p)) p e))
       ∙ sym (xorsum-head k (λ p. times m (c p) (alphaTo m (p * e))))
 
   square : (x y : ℕ) → times m (x ⊕ y) (x ⊕ y) ≡ times m x x ⊕ times m y y
@@ -70,7 +71,8 @@ module _ (m : ℕ) (F : Laws m) where
   unfolding valueAt
   at-double c h e = xorsum-cong (lengthOf m) _ _ (λ p _. term p) ∙ xorsum-square (lengthOf m) (λ p. times m (c p) (alphaTo m (p * e)))
     where
-      term : (p : ℕ) → times m (c p) (alphaTo m (p * (e * 2))) ≡ times m (times m (c p) (alphaTo m (p * e))) (times m (c p) (alphaTo m (p * e)))
+      term : (p : ℕ)
+          → times m (c p) (alphaTo m (p * (e * 2))) ≡ times m (times m (c p) (alphaTo m (p * e))) (times m (c p) (alphaTo m (p * e)))
       term p =
           ap₂ (times m) (sym (bit-square (c p) (h p))) (ap (alphaTo m) (omega arith) ∙ pw-add (p * e) (p * e))
           ∙ simp (ring, F)
@@ -85,7 +87,8 @@ module _ (m : ℕ) (F : Laws m) where
   pw-mod : (s : ℕ) → alphaTo m (s % lengthOf m) ≡ alphaTo m s
   pw-mod s =
       sym (ap (alphaTo m) (sym (div-add-mod' s (lengthOf m)) ∙ ap (λ (u : ℕ). u + s % lengthOf m) (mul-comm (s / lengthOf m) (lengthOf m)))
-      ∙ pw-add (lengthOf m * (s / lengthOf m)) (s % lengthOf m) ∙ ap (λ (u : ℕ). times m u (alphaTo m (s % lengthOf m))) (pw-round m F (s / lengthOf m))
+      ∙ pw-add (lengthOf m * (s / lengthOf m)) (s % lengthOf m)
+      ∙ ap (λ (u : ℕ). times m u (alphaTo m (s % lengthOf m))) (pw-round m F (s / lengthOf m))
       ∙ comm 1 (alphaTo m (s % lengthOf m)) ∙ one (alphaTo m (s % lengthOf m)) (pw-lt m F (s % lengthOf m)))
 
   pub bit-elem : (c p : ℕ) → bitOf c p < 2 ^ m
@@ -97,7 +100,8 @@ module _ (m : ℕ) (F : Laws m) where
       → (c : ℕ) → c < 2 ^ d → ZeroFrom m o r (bitOf c) → c ≡ 0
   unfolding valueAt
   low-zero o r d E I ld hr ne c h z =
-      bits-zero c d h (list-zeros d (bitOf c) (many-roots m F d (listOf d (bitOf c)) (list-length d (bitOf c)) (list-elements m d (bitOf c) (bit-elem c))
+      bits-zero c d h (list-zeros d (bitOf c)
+      (many-roots m F d (listOf d (bitOf c)) (list-length d (bitOf c)) (list-elements m d (bitOf c) (bit-elem c))
       (λ i. alphaTo m (x i % lengthOf m)) (λ i _. pw-lt m F (x i % lengthOf m))
       (λ i j hi hj q. ne i j hi hj (pw-inj _ _ (mod-lt (x i) n-pos) (mod-lt (x j) n-pos) q))
       roots))

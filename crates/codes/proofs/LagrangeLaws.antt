@@ -13,7 +13,8 @@ use Rattle.field.proofs.XorSumLaws.{xorsum-cong, xorsum-zero, xorsum-xor, xorsu
 use Rattle.field.proofs.RingLaws.{xor-over, times-zero, cancel, ring}
 use Rattle.codes.specs.Codeword.{valueAt, ZeroFrom, WordOver}
 use Rattle.codes.specs.Lagrange.{unless, others, productOver, Places, quotients, cell, lagrange, AllPlaces}
-use Rattle.codes.proofs.RootLaws.{xorsum-times, times-product, annihilate, pw-lt, differ, pw-round, pw-pos, others-lt, others-zero, vanish, one-lt}
+use Rattle.codes.proofs.RootLaws.{xorsum-times, times-product, annihilate, pw-lt, differ, pw-round, pw-pos, others-lt, others-zero}
+use Rattle.codes.proofs.RootLaws.{vanish, one-lt}
 
 module _ (m : ℕ) (F : Laws m) where
   infixl 70 _∗_
@@ -46,12 +47,14 @@ module _ (m : ℕ) (F : Laws m) where
           sym (xorsum-times m F n (pw e) f)
           ∙ xorsum-cong n (λ p. pw e ∗ f p) (λ p. f (suc p)) (λ p _. sym (pw-add e (p * e)) ∙ ap pw (omega arith))
           ∙ sym (xor-cancel (xorSum n (λ p. f (suc p))) 1)
-          ∙ ap (λ (u : ℕ). u ⊕ 1) (ap (λ (u : ℕ). xorSum n (λ p. f (suc p)) ⊕ u) (sym pw-zero ∙ ap pw (omega arith)) ∙ xorsum-shift n f ∙ ap (λ (u : ℕ). s ⊕ u) (pw-round m F e))
+          ∙ ap (λ (u : ℕ). u ⊕ 1) (ap (λ (u : ℕ). xorSum n (λ p. f (suc p)) ⊕ u) (sym pw-zero ∙ ap pw (omega arith)) ∙ xorsum-shift n f
+          ∙ ap (λ (u : ℕ). s ⊕ u) (pw-round m F e))
           ∙ xor-cancel s 1
 
   pub ones-roots : ZeroFrom m 1 (n - 1) (λ p. 1)
   unfolding valueAt
-  ones-roots e l h = xorsum-cong n _ _ (λ p _. comm 1 (pw (p * e)) ∙ one (pw (p * e)) (pw-lt m F (p * e))) ∙ geometric e l (omega (arith, n-pos))
+  ones-roots e l h =
+      xorsum-cong n _ _ (λ p _. comm 1 (pw (p * e)) ∙ one (pw (p * e)) (pw-lt m F (p * e))) ∙ geometric e l (omega (arith, n-pos))
 
   dens : ℕ → List ℕ → ℕ
   dens y [] = 1
@@ -62,7 +65,8 @@ module _ (m : ℕ) (F : Laws m) where
   quotients-product x y [] = refl
   quotients-product x y (v ∷ vs) =
       assoc (x ⊕ v) (inverseOf m (y ⊕ v)) (quotients m x y vs)
-      ∙ ap (λ (u : ℕ). (x ⊕ v) ∗ u) (ap (λ (u : ℕ). inverseOf m (y ⊕ v) ∗ u) (quotients-product x y vs) ∙ times-product m F x (dens y vs) (inverseOf m (y ⊕ v)) vs)
+      ∙ ap (λ (u : ℕ). (x ⊕ v) ∗ u) (ap (λ (u : ℕ). inverseOf m (y ⊕ v) ∗ u) (quotients-product x y vs)
+      ∙ times-product m F x (dens y vs) (inverseOf m (y ⊕ v)) vs)
 
   others-one : (X : ℕ → ℕ) (k i x : ℕ) → ((j : ℕ) → j < k → j ≢ i → (x ⊕ X j < 2 ^ m) × (x ⊕ X j ≢ 0)) → quotients m x x (others X k i) ≡ 1
   unfolding quotients others unless
@@ -73,7 +77,8 @@ module _ (m : ℕ) (F : Laws m) where
       go (yes p) e = e
       go (no p) e = let hk = h k (le-refl (suc k)) p in ap₂ _∗_ (inverse (x ⊕ X k) (hk .0) (hk .1)) e ∙ one 1 (one-lt m F)
 
-  sort : (x b y v d z : ℕ) → times m x (times m b (times m (times m y v) (times m d z))) ≡ times m (times m b (times m v d)) (times m (times m x y) z)
+  sort : (x b y v d z : ℕ)
+      → times m x (times m b (times m (times m y v) (times m d z))) ≡ times m (times m b (times m v d)) (times m (times m x y) z)
   sort x b y v d z = simp (ring, F)
 
   dens-lt : (y : ℕ) (vs : List ℕ) → dens y vs < 2 ^ m
@@ -85,7 +90,8 @@ module _ (m : ℕ) (F : Laws m) where
   out x y vs h = sym (times-product m F x 1 y vs ∙ ap (λ (u : ℕ). productOver m x u vs) (one y h))
 
   cell-product : (s : ℕ) (R : ℕ → ℕ) (k j p : ℕ)
-      → cell m s R k j p ≡ times m (times m (pw (p * s)) (inverseOf m (pw (R j * s)))) (times m (dens (pw (R j)) (others (λ i. pw (R i)) k j)) (productOver m (pw p) 1 (others (λ i. pw (R i)) k j)))
+      → cell m s R k j p ≡ times m (times m (pw (p * s)) (inverseOf m (pw (R j * s))))
+      (times m (dens (pw (R j)) (others (λ i. pw (R i)) k j)) (productOver m (pw p) 1 (others (λ i. pw (R i)) k j)))
   unfolding cell
   cell-product s R k j p =
       ap (λ (u : ℕ). times m (times m (pw (p * s)) (inverseOf m (pw (R j * s)))) u)
@@ -108,14 +114,16 @@ module _ (m : ℕ) (F : Laws m) where
   unfolding cell
   cell-zero s R k i j hi ne =
       ap (λ (u : ℕ). times m (times m (pw (R i * s)) (inverseOf m (pw (R j * s)))) u)
-      (quotients-product (pw (R i)) (pw (R j)) (others X k j) ∙ others-zero m F X k j i (pw (R i)) (dens (pw (R j)) (others X k j)) hi ne refl)
+      (quotients-product (pw (R i)) (pw (R j)) (others X k j)
+      ∙ others-zero m F X k j i (pw (R i)) (dens (pw (R j)) (others X k j)) hi ne refl)
       ∙ times-zero m F _
     where
       X : ℕ → ℕ
       X j = pw (R j)
 
   -- (B) it takes these values
-  pub lagrange-at : (s : ℕ) (R : ℕ → ℕ) (k : ℕ) (b : ℕ → ℕ) → Places m k R → ((j : ℕ) → j < k → b j < 2 ^ m) → (i : ℕ) → i < k → lagrange m s R k b (R i) ≡ b i
+  pub lagrange-at : (s : ℕ) (R : ℕ → ℕ) (k : ℕ) (b : ℕ → ℕ) → Places m k R → ((j : ℕ) → j < k → b j < 2 ^ m) → (i : ℕ) → i < k
+      → lagrange m s R k b (R i) ≡ b i
   unfolding lagrange
   lagrange-at s R k b pl hb i hi =
       xorsum-one k (λ j. times m (b j) (cell m s R k j (R i))) i hi
@@ -131,7 +139,8 @@ module _ (m : ℕ) (F : Laws m) where
       ∙ xorsum-zero k _ (λ j hj.
       xorsum-cong n (λ p. pw (p * e) ∗ g p j) (λ p. q j ∗ productOver m (pw p) (1 ∗ pw (p * (e + s))) (fs j)) (λ p _. turn p j)
       ∙ xorsum-times m F n (q j) (λ p. productOver m (pw p) (1 ∗ pw (p * (e + s))) (fs j))
-      ∙ ap (λ (u : ℕ). q j ∗ u) (annihilate m F (λ p. 1) 1 (n - 1) ones-roots (fs j) (e + s) (omega arith) (omega (arith, others-lt m F (λ j. pw (R j)) k j hj)))
+      ∙ ap (λ (u : ℕ). q j ∗ u) (annihilate m F (λ p. 1) 1 (n - 1) ones-roots (fs j) (e + s) (omega arith)
+      (omega (arith, others-lt m F (λ j. pw (R j)) k j hj)))
       ∙ times-zero m F (q j))
     where
       fs : ℕ → List ℕ
@@ -147,12 +156,15 @@ module _ (m : ℕ) (F : Laws m) where
       turn p j =
           ap (λ (u : ℕ). times m (pw (p * e)) (times m (b j) u)) (cell-product s R k j p)
           ∙ sort (pw (p * e)) (b j) (pw (p * s)) (inverseOf m (pw (R j * s))) (dens (pw (R j)) (fs j)) (productOver m (pw p) 1 (fs j))
-          ∙ ap (times m (q j)) (ap (λ (u : ℕ). times m u (productOver m (pw p) 1 (fs j))) (sym (pw-add (p * e) (p * s)) ∙ ap pw (omega arith) ∙ sym (comm 1 (pw (p * (e + s))) ∙ one (pw (p * (e + s))) (pw-lt m F (p * (e + s)))))
+          ∙ ap (times m (q j)) (ap (λ (u : ℕ). times m u (productOver m (pw p) 1 (fs j)))
+          (sym (pw-add (p * e) (p * s)) ∙ ap pw (omega arith)
+          ∙ sym (comm 1 (pw (p * (e + s))) ∙ one (pw (p * (e + s))) (pw-lt m F (p * (e + s)))))
           ∙ sym (out (pw p) (times m 1 (pw (p * (e + s)))) (fs j) (times-lt 1 (pw (p * (e + s))))))
 
   pub at-xor : (c d : ℕ → ℕ) (e : ℕ) → valueAt m (λ p. c p ⊕ d p) e ≡ valueAt m c e ⊕ valueAt m d e
   unfolding valueAt
-  at-xor c d e = xorsum-cong n _ _ (λ p _. xor-over m F (c p) (d p) (pw (p * e))) ∙ xorsum-xor n (λ p. c p ∗ pw (p * e)) (λ p. d p ∗ pw (p * e))
+  at-xor c d e =
+      xorsum-cong n _ _ (λ p _. xor-over m F (c p) (d p) (pw (p * e))) ∙ xorsum-xor n (λ p. c p ∗ pw (p * e)) (λ p. d p ∗ pw (p * e))
 
   pub lagrange-lt : (s : ℕ) (R : ℕ → ℕ) (k : ℕ) (b : ℕ → ℕ) (p : ℕ) → lagrange m s R k b p < 2 ^ m
   unfolding lagrange
@@ -164,7 +176,11 @@ module _ (m : ℕ) (F : Laws m) where
     seen j = c (R j)
 
     first : Places m k R
-    first = record { inside = λ j l. ord .places .inside j (omega arith); apart = λ i j hi hj. ord .places .apart i j (omega arith) (omega arith) }
+    first = record {
+      inside = λ j l. ord .places .inside j (omega arith);
+      apart = λ i j hi hj. ord .places .apart i j (omega arith)
+          (omega arith);
+    }
 
     agrees : (i : ℕ) → i < k → lagrange m s R k seen (R i) ≡ c (R i)
     unfolding seen
@@ -175,9 +191,14 @@ module _ (m : ℕ) (F : Laws m) where
     roots→lagrange h j l hj =
         xor-eq (c (R j)) (v (R j))
         (ap (λ (x : ℕ). d (R x)) (omega arith)
-        ∙ vanish m F d o r r U (λ e l he. at-xor c v e ∙ ap₂ _⊕_ (h e l he) (lagrange-roots o s os R k r seen (omega arith) e l he) ∙ xor-zero 0) (le-refl r)
+        ∙ vanish m F d o r r U (λ e l he. at-xor c v e ∙ ap₂ _⊕_ (h e l he) (lagrange-roots o s os R k r seen (omega arith) e l he)
+        ∙ xor-zero 0) (le-refl r)
         (λ p hp. xor-lt m (c p) (v p) (w p hp) (lagrange-lt s R k seen p))
-        (record { inside = λ j l. ord .places .inside (k + j) (omega arith); apart = λ i j hi hj e. let q : k + i ≡ k + j = ord .places .apart (k + i) (k + j) (omega arith) (omega arith) e in omega arith })
+        (record {
+          inside = λ j l. ord .places .inside (k + j) (omega arith);
+          apart = λ i j hi hj e. let q : k + i ≡ k + j =
+              ord .places .apart (k + i) (k + j) (omega arith) (omega arith) e in omega arith;
+        })
         (λ p hp. let t = ord .reached p hp in
         by-cases (decLt (t .0) k) (λ l. inl (ap d (t .2) ∙ ap (λ (u : ℕ). c (R (t .0)) ⊕ u) (agrees (t .0) l) ∙ xor-self (c (R (t .0)))))
         (λ nl. let a = t .0 in inr (a - k, omega (arith, t .1), t .2 ∙ ap R (omega arith))))
@@ -197,5 +218,6 @@ module _ (m : ℕ) (F : Laws m) where
     lagrange→roots h e l he =
         xorsum-cong n _ _ (λ p hp. let t = ord .reached p hp in
         ap (λ (u : ℕ). u ∗ pw (p * e))
-        (ap c (t .2) ∙ by-cases (decLt (t .0) k) (λ l. sym (agrees (t .0) l)) (λ nl. h (t .0) (omega arith) (t .1)) ∙ ap (lagrange m s R k seen) (sym (t .2))))
+        (ap c (t .2) ∙ by-cases (decLt (t .0) k) (λ l. sym (agrees (t .0) l)) (λ nl. h (t .0) (omega arith) (t .1))
+        ∙ ap (lagrange m s R k seen) (sym (t .2))))
         ∙ lagrange-roots o s os R k r seen (omega arith) e l he

@@ -8,18 +8,22 @@ use native.Mathlib.Omega.{arith}
 use Rattle.field.specs.Field.{times, alphaTo, lengthOf}
 use Rattle.field.specs.Laws.{Laws}
 use Rattle.field.proofs.XorSumLaws.{xorsum-cong}
-use Rattle.codes.specs.Word.{bitOf, wordOf}
-use Rattle.codes.specs.Codeword.{valueAt, ZeroFrom, WordOver}
+use Rattle.codes.specs.Codeword.{bitOf, wordOf, valueAt, ZeroFrom, WordOver}
 use Rattle.codes.specs.Lagrange.{Places, AllPlaces, lagrange, cell}
 use Rattle.codes.proofs.WordLaws.{bit-lt, bit-ext, word-lt, bit-word}
 use Rattle.codes.proofs.LagrangeLaws.{roots→lagrange, lagrange-at, lagrange-roots}
 use Rattle.codes.proofs.Conjugates.{bit-elem}
 
 -- a word with the roots and the symbols b j at R j, for j below k, is the Lagrange word of b; and the other way round
-module _ (m : ℕ) (F : Laws m) (o s : ℕ) (os : o + s ≡ 1) (R : ℕ → ℕ) (k r : ℕ) (b c : ℕ → ℕ) (ord : AllPlaces m R) (size : k + r ≡ lengthOf m)
+module _ (m : ℕ) (F : Laws m) (o s : ℕ) (os : o + s ≡ 1) (R : ℕ → ℕ) (k r : ℕ) (b c : ℕ → ℕ) (ord : AllPlaces m R)
+    (size : k + r ≡ lengthOf m)
     (hb : (j : ℕ) → j < k → b j < 2 ^ m) (w : WordOver m c) where
   first : Places m k R
-  first = record { inside = λ j l. ord .places .inside j (omega arith); apart = λ i j hi hj. ord .places .apart i j (omega arith) (omega arith) }
+  first = record {
+    inside = λ j l. ord .places .inside j (omega arith);
+    apart = λ i j hi hj. ord .places .apart i j (omega arith)
+        (omega arith);
+  }
 
   same-sum : ((j : ℕ) → j < k → c (R j) ≡ b j) → (p : ℕ) → lagrange m s R k (λ i. c (R i)) p ≡ lagrange m s R k b p
   unfolding lagrange
@@ -34,7 +38,8 @@ module _ (m : ℕ) (F : Laws m) (o s : ℕ) (os : o + s ≡ 1) (R : ℕ → ℕ)
         (λ nl. roots→lagrange m F o s os R k r c ord size w (h .0) (t .0) (omega arith) (t .1) ∙ same-sum (h .1) (R (t .0)))
         ∙ ap (lagrange m s R k b) (sym (t .2)),
     λ h. (
-      λ e a l. xorsum-cong (lengthOf m) _ _ (λ p hp. ap (λ (u : ℕ). times m u (alphaTo m (p * e))) (h p hp)) ∙ lagrange-roots m F o s os R k r b (omega arith) e a l,
+      λ e a l. xorsum-cong (lengthOf m) _ _ (λ p hp. ap (λ (u : ℕ). times m u (alphaTo m (p * e))) (h p hp))
+          ∙ lagrange-roots m F o s os R k r b (omega arith) e a l,
       λ j l. h (R j) (first .inside j l) ∙ lagrange-at m F s R k b first hb j l,
     ),
   )
@@ -49,7 +54,8 @@ module _ (m : ℕ) (F : Laws m) (o s : ℕ) (os : o + s ≡ 1) (R : ℕ → ℕ)
   abbrev pub Binary : Type 0
   Binary = (p : ℕ) → p < lengthOf m → lagrange m s R k b p < 2
 
-  iff : (w : ℕ) → (ZeroFrom m o r (bitOf w) × ((j : ℕ) → j < k → bitOf w (R j) ≡ b j)) ↔ ((p : ℕ) → p < lengthOf m → bitOf w p ≡ lagrange m s R k b p)
+  iff : (w : ℕ)
+      → (ZeroFrom m o r (bitOf w) × ((j : ℕ) → j < k → bitOf w (R j) ≡ b j)) ↔ ((p : ℕ) → p < lengthOf m → bitOf w p ≡ lagrange m s R k b p)
   iff w = candidate m F o s os R k r b (bitOf w) ord size hb (λ p _. bit-elem m F w p)
 
   pub fits→binary : (w : ℕ) → Fits w → Binary × (w ≡ wordOf (lengthOf m) (lagrange m s R k b))

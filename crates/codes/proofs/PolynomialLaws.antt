@@ -48,7 +48,8 @@ module _ (m : ℕ) (F : Laws m) where
   divide : (c : ℕ) (cs : List ℕ) (r x : ℕ) → evaluate m (c ∷ cs) x ≡ evaluate m (c ∷ cs) r ⊕ (x ⊕ r) ∗ evaluate m (quotientBy r cs) x
   unfolding evaluate quotientBy
   divide c [] r x = simp (ring, F)
-  divide c (d ∷ cs) r x = ap (λ (u : ℕ). c ⊕ x ∗ u) (divide d cs r x) ∙ regroup c r x (evaluate m (d ∷ cs) r) (evaluate m (quotientBy r cs) x)
+  divide c (d ∷ cs) r x =
+      ap (λ (u : ℕ). c ⊕ x ∗ u) (divide d cs r x) ∙ regroup c r x (evaluate m (d ∷ cs) r) (evaluate m (quotientBy r cs) x)
 
   quo-zeros : (r c : ℕ) (cs : List ℕ) → evaluate m (c ∷ cs) r ≡ 0 → Zeros (quotientBy r cs) → Zeros (c ∷ cs)
   unfolding evaluate quotientBy
@@ -73,12 +74,15 @@ module _ (m : ℕ) (F : Laws m) where
   many-roots (suc k) [] l h X hx ne e = tt
   many-roots (suc k) (c ∷ cs) l h X hx ne e =
       quo-zeros r c cs (e 0 (omega arith))
-      (many-roots k (quotientBy r cs) (quo-length r cs ∙ suc-inj l) (quo-elements r cs (h .1)) (λ i. X (suc i)) (λ i l. hx (suc i) (omega arith))
+      (many-roots k (quotientBy r cs) (quo-length r cs ∙ suc-inj l) (quo-elements r cs (h .1)) (λ i. X (suc i))
+      (λ i l. hx (suc i) (omega arith))
       (λ i j hi hj q. suc-inj (ne (suc i) (suc j) (omega arith) (omega arith) q))
-      (λ i l. cancel m F (evaluate m (quotientBy r cs) (X (suc i))) (X (suc i) ⊕ r) (evaluate-lt (quotientBy r cs) (X (suc i)) (quo-elements r cs (h .1)))
+      (λ i l. cancel m F (evaluate m (quotientBy r cs) (X (suc i))) (X (suc i) ⊕ r)
+      (evaluate-lt (quotientBy r cs) (X (suc i)) (quo-elements r cs (h .1)))
       (xor-lt m (X (suc i)) r (hx (suc i) (omega arith)) (hx 0 (omega arith)))
       (λ z. suc-ne-zero i (ne (suc i) 0 (omega arith) (omega arith) (xor-eq (X (suc i)) r z)))
-      (sym (zero-xor _) ∙ ap (λ (u : ℕ). u ⊕ (X (suc i) ⊕ r) ∗ evaluate m (quotientBy r cs) (X (suc i))) (sym (e 0 (omega arith))) ∙ sym (divide c cs r (X (suc i))) ∙ e (suc i) (omega arith))))
+      (sym (zero-xor _) ∙ ap (λ (u : ℕ). u ⊕ (X (suc i) ⊕ r) ∗ evaluate m (quotientBy r cs) (X (suc i))) (sym (e 0 (omega arith)))
+      ∙ sym (divide c cs r (X (suc i))) ∙ e (suc i) (omega arith))))
     where
       r : ℕ
       r = X 0

@@ -51,7 +51,8 @@ module _ (m : ℕ) (F : Laws m) where
       (times-product (pw p) (c p ∗ pw (p * e)) (pw p) fs ∙ ap (λ (u : ℕ). productOver m (pw p) u fs) (next (c p) p e)))
       ∙ xorsum-xor n (λ p. productOver m (pw p) (c p ∗ pw (p * suc e)) fs) (λ p. v ∗ productOver m (pw p) (c p ∗ pw (p * e)) fs)
       ∙ ap₂ _⊕_ (annihilate c b r h fs (suc e) (omega arith) (omega arith))
-      (xorsum-times n v (λ p. productOver m (pw p) (c p ∗ pw (p * e)) fs) ∙ ap (λ (u : ℕ). v ∗ u) (annihilate c b r h fs e l (omega arith)) ∙ times-zero m F v)
+      (xorsum-times n v (λ p. productOver m (pw p) (c p ∗ pw (p * e)) fs) ∙ ap (λ (u : ℕ). v ∗ u) (annihilate c b r h fs e l (omega arith))
+      ∙ times-zero m F v)
       ∙ xor-zero 0
 
   pub pw-lt : (i : ℕ) → pw i < 2 ^ m
@@ -74,7 +75,8 @@ module _ (m : ℕ) (F : Laws m) where
       go : (k : ℕ) → n ≡ k → ⊥
       go zero q = omega (arith, n-pos)
       go (suc k) q =
-          let z : _≡_ {A = ℕ} 1 0 = sym (pw-round i) ∙ ap pw (ap (λ (x : ℕ). x * i) q ∙ omega arith) ∙ pw-add i (k * i) ∙ ap (λ (u : ℕ). u ∗ pw (k * i)) e ∙ zero-times m F (pw (k * i)) in
+          let z : _≡_ {A = ℕ} 1 0 = sym (pw-round i) ∙ ap pw (ap (λ (x : ℕ). x * i) q ∙ omega arith) ∙ pw-add i (k * i)
+          ∙ ap (λ (u : ℕ). u ∗ pw (k * i)) e ∙ zero-times m F (pw (k * i)) in
           omega arith
 
   pub product-lt : (x y : ℕ) (vs : List ℕ) → y < 2 ^ m → productOver m x y vs < 2 ^ m
@@ -97,7 +99,8 @@ module _ (m : ℕ) (F : Laws m) where
   others-le X zero i = le-refl 0
   others-le X (suc k) i = omega (arith, add-le (ℕ-discrete k i) (X k) (others X k i), others-le X k i)
 
-  add-lt : (k i : ℕ) (d : Dec (k ≡ i)) (v : ℕ) (vs : List ℕ) → i < suc k → length vs ≤ k → (i < k → length vs < k) → length (unless d v vs) < suc k
+  add-lt : (k i : ℕ) (d : Dec (k ≡ i)) (v : ℕ) (vs : List ℕ) → i < suc k → length vs ≤ k → (i < k → length vs < k)
+      → length (unless d v vs) < suc k
   unfolding unless
   add-lt k i (yes e) v vs l h f = omega arith
   add-lt k i (no e) v vs l h f = let g : length vs < k = f (omega arith) in omega arith
@@ -113,9 +116,12 @@ module _ (m : ℕ) (F : Laws m) where
   others-zero X zero i j x y l ne e = absurd (not-suc-le-zero l)
   others-zero X (suc k) i j x y l ne e = go (ℕ-discrete k i) (ℕ-discrete j k) (λ h. others-zero X k i j x y h ne e)
     where
-      go : (d : Dec (k ≡ i)) → Dec (j ≡ k) → (j < k → productOver m x y (others X k i) ≡ 0) → productOver m x y (unless d (X k) (others X k i)) ≡ 0
+      go : (d : Dec (k ≡ i)) → Dec (j ≡ k) → (j < k → productOver m x y (others X k i) ≡ 0)
+          → productOver m x y (unless d (X k) (others X k i)) ≡ 0
       go (yes p) q f = f (omega arith)
-      go (no p) (yes q) f = ap (λ (u : ℕ). u ∗ productOver m x y (others X k i)) (ap (λ (u : ℕ). u ⊕ X k) (e ∙ ap X q) ∙ xor-self (X k)) ∙ zero-times m F (productOver m x y (others X k i))
+      go (no p) (yes q) f =
+          ap (λ (u : ℕ). u ∗ productOver m x y (others X k i)) (ap (λ (u : ℕ). u ⊕ X k) (e ∙ ap X q) ∙ xor-self (X k))
+          ∙ zero-times m F (productOver m x y (others X k i))
       go (no p) (no q) f = ap (λ (u : ℕ). (x ⊕ X k) ∗ u) (f (omega arith)) ∙ times-zero m F (x ⊕ X k)
 
   -- x is none of them
@@ -125,12 +131,16 @@ module _ (m : ℕ) (F : Laws m) where
   others-cancel X zero i x y hy h e = e
   others-cancel X (suc k) i x y hy h e = go (ℕ-discrete k i) (others-cancel X k i x y hy (λ j l. h j (omega arith))) e
     where
-      go : (d : Dec (k ≡ i)) → (productOver m x y (others X k i) ≡ 0 → y ≡ 0) → productOver m x y (unless d (X k) (others X k i)) ≡ 0 → y ≡ 0
+      go : (d : Dec (k ≡ i)) → (productOver m x y (others X k i) ≡ 0 → y ≡ 0) → productOver m x y (unless d (X k) (others X k i)) ≡ 0
+          → y ≡ 0
       go (yes p) f e = f e
-      go (no p) f e = let hk = h k (le-refl (suc k)) p in f (cancel m F (productOver m x y (others X k i)) (x ⊕ X k) (product-lt x y (others X k i) hy) (hk .0) (hk .1) e)
+      go (no p) f e =
+          let hk = h k (le-refl (suc k)) p in
+          f (cancel m F (productOver m x y (others X k i)) (x ⊕ X k) (product-lt x y (others X k i) hy) (hk .0) (hk .1) e)
 
   -- at one of k different places, the factors of the others are not 0
-  pub apart-cancel : (k : ℕ) (U : ℕ → ℕ) → Places m k U → (i y : ℕ) → i < k → y < 2 ^ m → productOver m (pw (U i)) y (others (λ v. pw (U v)) k i) ≡ 0 → y ≡ 0
+  pub apart-cancel : (k : ℕ) (U : ℕ → ℕ) → Places m k U → (i y : ℕ) → i < k → y < 2 ^ m
+      → productOver m (pw (U i)) y (others (λ v. pw (U v)) k i) ≡ 0 → y ≡ 0
   apart-cancel k U pl i y hi hy =
       others-cancel (λ v. pw (U v)) k i (pw (U i)) y hy
       (λ j hj ne. (
@@ -145,7 +155,8 @@ module _ (m : ℕ) (F : Laws m) where
       cancel m F (c (U i)) (pw (U i * b)) (w (U i) (pl .inside i hi)) (pw-lt (U i * b)) (pw-pos (U i * b))
       (comm (pw (U i * b)) (c (U i))
       ∙ apart-cancel k U pl i (c (U i) ∗ pw (U i * b)) hi (times-lt (c (U i)) (pw (U i * b)))
-      (sym (xorsum-one n f (U i) (pl .inside i hi) zeros) ∙ annihilate c b r h (others X k i) b (le-refl b) (omega (arith, others-lt X k i hi))))
+      (sym (xorsum-one n f (U i) (pl .inside i hi) zeros)
+      ∙ annihilate c b r h (others X k i) b (le-refl b) (omega (arith, others-lt X k i hi))))
     where
       X : ℕ → ℕ
       X j = pw (U j)
@@ -156,6 +167,7 @@ module _ (m : ℕ) (F : Laws m) where
       zeros : (p : ℕ) → p < n → p ≢ U i → f p ≡ 0
       zeros p hp ne =
           ⊎-elim
-          (λ e. ap (λ (u : ℕ). productOver m (pw p) u (others X k i)) (ap (λ (u : ℕ). u ∗ pw (p * b)) e ∙ zero-times m F (pw (p * b))) ∙ product-zero (pw p) (others X k i))
+          (λ e. ap (λ (u : ℕ). productOver m (pw p) u (others X k i)) (ap (λ (u : ℕ). u ∗ pw (p * b)) e ∙ zero-times m F (pw (p * b)))
+          ∙ product-zero (pw p) (others X k i))
           (λ t. others-zero X k i (t .0) (pw p) (c p ∗ pw (p * b)) (t .1) (λ e. ne (t .2 ∙ ap U e)) (ap pw (t .2)))
           (out p hp)

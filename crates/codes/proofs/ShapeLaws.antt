@@ -33,7 +33,8 @@ dimension-small m t k = leb→le (dimensionOf m t) 57 (each-code (λ x y. leb (d
 -- n - k and k are n
 pub parity-full : (m t : ℕ) → Known m t → parityOf m t + dimensionOf m t ≡ lengthOf m
 unfolding entryOf dimensionOf parityOf lengthOf
-parity-full m t k = eqb→eq (parityOf m t + dimensionOf m t) (lengthOf m) (each-code (λ x y. eqb (parityOf x y + dimensionOf x y) (lengthOf x)) tt m t k)
+parity-full m t k =
+    eqb→eq (parityOf m t + dimensionOf m t) (lengthOf m) (each-code (λ x y. eqb (parityOf x y + dimensionOf x y) (lengthOf x)) tt m t k)
 
 -- there are fewer roots than positions
 pub length-large : (m : ℕ) → 4 ≤ m → m ≤ 6 → 15 ≤ lengthOf m

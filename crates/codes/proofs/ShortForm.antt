@@ -16,7 +16,8 @@ use Rattle.field.proofs.XorLaws.{xor-zero, zero-xor, xor-eq}
 use Rattle.field.proofs.XorSumLaws.{xorsum-cong, xorsum-xor, xorsum-one}
 use Rattle.field.proofs.RingLaws.{zero-times}
 use Rattle.codes.specs.Lagrange.{others, productOver, Places, AllPlaces, cell, lagrange, spread, shortCell}
-use Rattle.codes.proofs.RootLaws.{annihilate, pw-lt, pw-pos, one-lt, product-lt, product-zero, times-product, others-lt, others-zero, apart-cancel}
+use Rattle.codes.proofs.RootLaws.{annihilate, pw-lt, pw-pos, one-lt, product-lt, product-zero, times-product, others-lt, others-zero}
+use Rattle.codes.proofs.RootLaws.{apart-cancel}
 use Rattle.codes.proofs.LagrangeLaws.{lagrange-at, lagrange-roots}
 
 part : (b : Bool) (x : ℕ) → x ≡ only b x ⊕ only (not b) x
@@ -29,7 +30,8 @@ xorsum-two n f u w hu hw ne h =
     xorsum-cong n f (λ p. only (eqb p u) (f p) ⊕ only (not (eqb p u)) (f p)) (λ p _. part (eqb p u) (f p))
     ∙ xorsum-xor n (λ p. only (eqb p u) (f p)) (λ p. only (not (eqb p u)) (f p))
     ∙ ap₂ _⊕_
-    (xorsum-one n (λ p. only (eqb p u) (f p)) u hu (λ p hp d. only-no (eqb p u) (f p) (λ t. d (eqb→eq p u t))) ∙ only-yes (eqb u u) (f u) (eqb-refl u))
+    (xorsum-one n (λ p. only (eqb p u) (f p)) u hu (λ p hp d. only-no (eqb p u) (f p) (λ t. d (eqb→eq p u t)))
+    ∙ only-yes (eqb u u) (f u) (eqb-refl u))
     (xorsum-one n (λ p. only (not (eqb p u)) (f p)) w hw (λ p hp d. by-cases (ℕ-discrete p u)
     (λ e. only-no (not (eqb p u)) (f p) (λ t. not-eqb p u t e)) (λ e. only-yes (not (eqb p u)) (f p) (ne→not p u e) ∙ h p hp e d))
     ∙ only-yes (not (eqb w u)) (f w) (ne→not w u (λ e. ne (sym e))))
@@ -52,7 +54,11 @@ module _ (m : ℕ) (F : Laws m) (b r : ℕ) (first : b ≤ 1) (R : ℕ → ℕ) 
     c = lagrange m (1 - b) R K δ
 
     places : Places m K R
-    places = record { inside = λ j l. ord .places .inside j (omega arith); apart = λ i j hi hj. ord .places .apart i j (omega arith) (omega arith) }
+    places = record {
+      inside = λ j l. ord .places .inside j (omega arith);
+      apart = λ i j hi hj. ord .places .apart i j (omega arith)
+          (omega arith);
+    }
 
     δ-lt : (i : ℕ) → i < K → δ i < 2 ^ m
     unfolding δ
@@ -79,7 +85,8 @@ module _ (m : ℕ) (F : Laws m) (b r : ℕ) (first : b ≤ 1) (R : ℕ → ℕ) 
     sum-none : xorSum (lengthOf m) f ≡ 0
     unfolding f c
     sum-none =
-        annihilate m F c b r (lagrange-roots m F b (1 - b) (omega arith) R K r δ (omega arith)) (others (λ v. alphaTo m (U v)) r o) b (le-refl b)
+        annihilate m F c b r (lagrange-roots m F b (1 - b) (omega arith) R K r δ (omega arith)) (others (λ v. alphaTo m (U v)) r o) b
+        (le-refl b)
         (omega (arith, others-lt m F (λ v. alphaTo m (U v)) r o ho))
 
     elsewhere : (p : ℕ) → p < lengthOf m → p ≢ R j → p ≢ U o → f p ≡ 0
@@ -90,21 +97,26 @@ module _ (m : ℕ) (F : Laws m) (b r : ℕ) (first : b ≤ 1) (R : ℕ → ℕ) 
         let hi : i < lengthOf m = t .1 in
         by-cases (decLt i K)
         (λ l. ap (λ (u : ℕ). productOver m (alphaTo m p) u (others (λ v. alphaTo m (U v)) r o))
-        (ap (λ (u : ℕ). times m u (alphaTo m (p * b))) (ap c (t .2) ∙ c-at i l ∙ off i (λ e. nj (t .2 ∙ ap R e))) ∙ zero-times m F _) ∙ product-zero m F (alphaTo m p) _)
+        (ap (λ (u : ℕ). times m u (alphaTo m (p * b))) (ap c (t .2) ∙ c-at i l ∙ off i (λ e. nj (t .2 ∙ ap R e))) ∙ zero-times m F _)
+        ∙ product-zero m F (alphaTo m p) _)
         (λ l. let e : i ≡ K + (i - K) = omega arith in
-        others-zero m F (λ v. alphaTo m (U v)) r o (i - K) (alphaTo m p) _ (omega arith) (λ q. nu (t .2 ∙ ap R e ∙ ap U q)) (ap (alphaTo m) (t .2 ∙ ap R e)))
+        others-zero m F (λ v. alphaTo m (U v)) r o (i - K) (alphaTo m p) _ (omega arith) (λ q. nu (t .2 ∙ ap R e ∙ ap U q))
+        (ap (alphaTo m) (t .2 ∙ ap R e)))
       where
         off : (i : ℕ) → i ≢ j → δ i ≡ 0
         off i n = only-no (eqb i j) 1 (λ t. n (eqb→eq i j t))
 
     meet : f (R j) ≡ f (U o)
-    meet = xor-eq (f (R j)) (f (U o)) (sym (xorsum-two (lengthOf m) f (R j) (U o) (ord .places .inside j (omega arith)) (ord .places .inside (K + o) (omega arith))
+    meet =
+        xor-eq (f (R j)) (f (U o)) (sym
+        (xorsum-two (lengthOf m) f (R j) (U o) (ord .places .inside j (omega arith)) (ord .places .inside (K + o) (omega arith))
         (λ e. let q : j ≡ K + o = ord .places .apart j (K + o) (omega arith) (omega arith) e in omega arith) elsewhere) ∙ sum-none)
 
     at-bit : f (R j) ≡ spread m b r U o (R j)
     unfolding f spread δ
     at-bit = ap (λ (u : ℕ). productOver m (alphaTo m (R j)) u (others (λ v. alphaTo m (U v)) r o))
-        (ap (λ (u : ℕ). times m u (alphaTo m (R j * b))) (c-at j hj ∙ only-yes (eqb j j) 1 (eqb-refl j)) ∙ comm 1 _ ∙ one _ (pw-lt m F (R j * b)))
+        (ap (λ (u : ℕ). times m u (alphaTo m (R j * b))) (c-at j hj ∙ only-yes (eqb j j) 1 (eqb-refl j)) ∙ comm 1 _
+        ∙ one _ (pw-lt m F (R j * b)))
 
     cell-lt : cell m (1 - b) R K j (U o) < 2 ^ m
     unfolding cell
@@ -113,7 +125,8 @@ module _ (m : ℕ) (F : Laws m) (b r : ℕ) (first : b ≤ 1) (R : ℕ → ℕ) 
     at-outside : f (U o) ≡ times m (cell m (1 - b) R K j (U o)) (spread m b r U o (U o))
     unfolding f spread
     at-outside =
-        ap (λ (u : ℕ). productOver m (alphaTo m (U o)) (times m u (alphaTo m (U o * b))) (others (λ v. alphaTo m (U v)) r o)) (c-cell (U o) cell-lt)
+        ap (λ (u : ℕ). productOver m (alphaTo m (U o)) (times m u (alphaTo m (U o * b))) (others (λ v. alphaTo m (U v)) r o))
+        (c-cell (U o) cell-lt)
         ∙ sym (times-product m F (alphaTo m (U o)) (alphaTo m (U o * b)) (cell m (1 - b) R K j (U o)) (others (λ v. alphaTo m (U v)) r o))
 
     spread-lt : spread m b r U o (U o) < 2 ^ m

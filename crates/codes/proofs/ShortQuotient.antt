@@ -65,7 +65,8 @@ module _ (m : ℕ) (F : Laws m) where
             → productOver m x y (unless d (X k) (others X k o)) ∗ B o ≡ productOver m 0 1 (unless d (X k) (others X k o)) ∗ (G k ∗ B k)
         go (yes e) f g = ap₂ _∗_ (f (omega arith)) (ap B (sym e)) ∙ assoc (C k) (G k) (B k)
         go (no e) f g =
-            ap (λ (u : ℕ). u ∗ P k ∗ B o) (h k (le-refl (suc k)) e) ∙ assoc (X k ∗ B k) (P k) (B o) ∙ ap (λ (u : ℕ). X k ∗ B k ∗ u) (g (omega arith))
+            ap (λ (u : ℕ). u ∗ P k ∗ B o) (h k (le-refl (suc k)) e) ∙ assoc (X k ∗ B k) (P k) (B o)
+            ∙ ap (λ (u : ℕ). X k ∗ B k ∗ u) (g (omega arith))
             ∙ regroup (X k) (B k) (C k) (G k)
 
   cancel-right : (x y b : ℕ) → x < 2 ^ m → y < 2 ^ m → b < 2 ^ m → b ≢ 0 → x ∗ b ≡ y ∗ b → x ≡ y
@@ -90,7 +91,8 @@ module _ (m : ℕ) (F : Laws m) where
       spread-grown : (p : ℕ) → p < lengthOf m → ((v : ℕ) → v < r → v ≢ o → p ≢ U v)
           → spread m b r U o p ∗ B p o ≡ productOver m 0 1 (others X r o) ∗ Q p
       unfolding spread Factors
-      spread-grown p hp other = past X (B p) (alphaTo m p) (alphaTo m (p * b)) o (pw-lt m F (p * b)) r ho (λ v lv ne. factor p v hp lv (other v lv ne))
+      spread-grown p hp other =
+          past X (B p) (alphaTo m p) (alphaTo m (p * b)) o (pw-lt m F (p * b)) r ho (λ v lv ne. factor p v hp lv (other v lv ne))
 
       apart : (v : ℕ) → v < r → v ≢ o → U o ≢ U v
       apart v lv ne e = ne (sym (places .apart o v ho lv e))
@@ -117,8 +119,10 @@ module _ (m : ℕ) (F : Laws m) where
           let c = productOver m 0 1 (others X r o) in
           let same : w ∗ s ≡ spread m b r U o p =
           cancel-right (w ∗ s) (spread m b r U o p) (B p o) (times-lt w s) (spread-lt p) (element p o .0) (element p o .1)
-          (ap (λ (u : ℕ). w ∗ u ∗ B p o) spread-own ∙ move w c (Q (U o)) (B p o) ∙ ap (λ (u : ℕ). c ∗ u) e ∙ sym (spread-grown p hp other)) in
-          ap (λ (u : ℕ). u ∗ inverseOf m s) (sym same) ∙ assoc w s (inverseOf m s) ∙ ap (λ (u : ℕ). w ∗ u) (inverse s (spread-lt (U o)) spread-pos) ∙ one w hw
+          (ap (λ (u : ℕ). w ∗ u ∗ B p o) spread-own ∙ move w c (Q (U o)) (B p o) ∙ ap (λ (u : ℕ). c ∗ u) e
+          ∙ sym (spread-grown p hp other)) in
+          ap (λ (u : ℕ). u ∗ inverseOf m s) (sym same) ∙ assoc w s (inverseOf m s)
+          ∙ ap (λ (u : ℕ). w ∗ u) (inverse s (spread-lt (U o)) spread-pos) ∙ one w hw
         where
           move : (w c q b : ℕ) → w ∗ (c ∗ q) ∗ b ≡ c ∗ (w ∗ (q ∗ b))
           move w c q b = simp (ring, F)

@@ -11,9 +11,8 @@ use Rattle.field.specs.Laws.{Laws}
 use Rattle.field.proofs.XorLaws.{xor-zero, xor-self, xor-eq, xor-shr}
 use Rattle.field.proofs.FieldLaws.{laws}
 use Rattle.field.proofs.RingLaws.{times-zero}
-use Rattle.codes.specs.Word.{bitOf}
+use Rattle.codes.specs.Codeword.{bitOf, valueAt, ZeroFrom, Codeword}
 use Rattle.codes.specs.Code.{entryOf, dimensionOf, parityOf, generatorOf, Known}
-use Rattle.codes.specs.Codeword.{valueAt, ZeroFrom, Codeword}
 use Rattle.codes.specs.Generator.{systematic, remainderBy, withParity}
 use Rattle.codes.proofs.WordLaws.{bit-shift, bit-lt, below-div, top-lt, high-lt}
 use Rattle.codes.proofs.ShapeLaws.{each-code, parity-full}
@@ -40,7 +39,8 @@ module _ (d g : ℕ) (top : g / 2 ^ d ≡ 1) where
   cleared : (k c : ℕ) → c < 2 ^ (d + suc k) → c ⊕ bitTimes (bitOf c (d + k)) (g * 2 ^ k) < 2 ^ (d + k)
   cleared k c h =
       below-div (c ⊕ bitTimes b (g * 2 ^ k)) (d + k)
-      (xor-shr c (bitTimes b (g * 2 ^ k)) (d + k) ∙ ap₂ _⊕_ (sym is-top) (bit-times-shr b (g * 2 ^ k) (d + k) ∙ ap (bitTimes b) one ∙ bit-times-one b (bit-lt c (d + k))) ∙ xor-self b)
+      (xor-shr c (bitTimes b (g * 2 ^ k)) (d + k)
+      ∙ ap₂ _⊕_ (sym is-top) (bit-times-shr b (g * 2 ^ k) (d + k) ∙ ap (bitTimes b) one ∙ bit-times-one b (bit-lt c (d + k))) ∙ xor-self b)
     where
       b : ℕ
       b = bitOf c (d + k)
@@ -48,7 +48,8 @@ module _ (d g : ℕ) (top : g / 2 ^ d ≡ 1) where
       is-top : b ≡ c / 2 ^ (d + k)
       is-top =
           bit-shift c (d + k)
-          ∙ mod-eq-of-lt (div-lt-iff-lt-mul (pow-pos (d + k)) .1 (subst (λ (x : ℕ). c < x) (ap (λ (x : ℕ). 2 ^ x) (add-suc d k) ∙ pow-suc 2 (d + k) ∙ omega arith) h))
+          ∙ mod-eq-of-lt (div-lt-iff-lt-mul (pow-pos (d + k)) .1
+          (subst (λ (x : ℕ). c < x) (ap (λ (x : ℕ). 2 ^ x) (add-suc d k) ∙ pow-suc 2 (d + k) ∙ omega arith) h))
 
       one : g * 2 ^ k / 2 ^ (d + k) ≡ 1
       one = ap (λ (x : ℕ). g * 2 ^ k / 2 ^ x) (omega arith) ∙ sym (shr-shr (g * 2 ^ k) k d) ∙ ap (λ (x : ℕ). x / 2 ^ d) (shl-shr g k) ∙ top
@@ -62,7 +63,8 @@ module _ (d g : ℕ) (top : g / 2 ^ d ≡ 1) where
   unfolding withParity
   parity-high k M h =
       xor-shr (M * 2 ^ d) (remainderBy d g k (M * 2 ^ d)) d
-      ∙ ap₂ _⊕_ (shl-shr M d) (div-eq-of-lt (remainder-lt k (M * 2 ^ d) (subst (λ (x : ℕ). M * 2 ^ d < 2 ^ x) (omega arith) (shl-lt k d h))))
+      ∙ ap₂ _⊕_ (shl-shr M d) (div-eq-of-lt
+      (remainder-lt k (M * 2 ^ d) (subst (λ (x : ℕ). M * 2 ^ d < 2 ^ x) (omega arith) (shl-lt k d h))))
       ∙ xor-zero M
 
   module _ (m : ℕ) (F : Laws m) (o r : ℕ) (z : ZeroFrom m o r (bitOf g)) where
@@ -70,7 +72,8 @@ module _ (d g : ℕ) (top : g / 2 ^ d ≡ 1) where
     shifted zero h e a b = ap (λ (u : ℕ). valueAt m (bitOf u) e) (omega arith) ∙ z e a b
     shifted (suc k) h e a b =
         ap (λ (u : ℕ). valueAt m (bitOf u) e) twice
-        ∙ at-shift m F (g * 2 ^ k) e (subst (λ (u : ℕ). u < 2 ^ lengthOf m) twice (le-trans (shl-lt (suc d) (suc k) (top-lt g d top)) (pow-mono {i = suc d + suc k} (omega arith))))
+        ∙ at-shift m F (g * 2 ^ k) e (subst (λ (u : ℕ). u < 2 ^ lengthOf m) twice
+        (le-trans (shl-lt (suc d) (suc k) (top-lt g d top)) (pow-mono {i = suc d + suc k} (omega arith))))
         ∙ ap (times m (alphaTo m e)) (shifted k (omega arith) e a b) ∙ times-zero m F (alphaTo m e)
       where
         twice : g * 2 ^ suc k ≡ g * 2 ^ k * 2
@@ -80,13 +83,17 @@ module _ (d g : ℕ) (top : g / 2 ^ d ≡ 1) where
     unfolding remainderBy
     remainder-at zero c e h a b = refl
     remainder-at (suc k) c e h a b =
-        remainder-at k (c ⊕ bitTimes (bitOf c (d + k)) (g * 2 ^ k)) e (omega arith) a b ∙ at-bits m F c (bitTimes (bitOf c (d + k)) (g * 2 ^ k)) e
-        ∙ ap (λ (u : ℕ). valueAt m (bitOf c) e ⊕ u) (at-bit-times m F (bitOf c (d + k)) (g * 2 ^ k) e (shifted k (omega arith) e a b)) ∙ xor-zero (valueAt m (bitOf c) e)
+        remainder-at k (c ⊕ bitTimes (bitOf c (d + k)) (g * 2 ^ k)) e (omega arith) a b
+        ∙ at-bits m F c (bitTimes (bitOf c (d + k)) (g * 2 ^ k)) e
+        ∙ ap (λ (u : ℕ). valueAt m (bitOf c) e ⊕ u) (at-bit-times m F (bitOf c (d + k)) (g * 2 ^ k) e (shifted k (omega arith) e a b))
+        ∙ xor-zero (valueAt m (bitOf c) e)
 
     pub parity-roots : (k M : ℕ) → d + k ≤ lengthOf m → ZeroFrom m o r (bitOf (withParity d g k M))
     unfolding withParity
     parity-roots k M h e a b =
-        at-bits m F (M * 2 ^ d) (remainderBy d g k (M * 2 ^ d)) e ∙ ap (λ (u : ℕ). valueAt m (bitOf (M * 2 ^ d)) e ⊕ u) (remainder-at k (M * 2 ^ d) e h a b) ∙ xor-self (valueAt m (bitOf (M * 2 ^ d)) e)
+        at-bits m F (M * 2 ^ d) (remainderBy d g k (M * 2 ^ d)) e
+        ∙ ap (λ (u : ℕ). valueAt m (bitOf (M * 2 ^ d)) e ⊕ u) (remainder-at k (M * 2 ^ d) e h a b)
+        ∙ xor-self (valueAt m (bitOf (M * 2 ^ d)) e)
 
 -- the generators' top coefficients
 tops : T (all 3 (λ i. all 3 (λ j. eqb (generatorOf (4 + i) (1 + j) / 2 ^ parityOf (4 + i) (1 + j)) 1)))
@@ -106,11 +113,15 @@ module _ (m t M : ℕ) (K : Known m t) (small : M < 2 ^ dimensionOf m t) where
   unfolding systematic
   systematic-codeword = record {
     bits = subst (λ (x : ℕ). systematic m t M < 2 ^ x) (omega (arith, parity-full m t K))
-        (high-lt (systematic m t M) (parityOf m t) (dimensionOf m t) (subst (λ (x : ℕ). x < 2 ^ dimensionOf m t) (sym systematic-high) small));
-    roots = parity-roots (parityOf m t) (generatorOf m t) (top m t K) m (laws m (K .m-low) (K .m-high)) 1 (2 * t) (good m t K .roots) (dimensionOf m t) M
+        (high-lt (systematic m t M) (parityOf m t) (dimensionOf m t)
+        (subst (λ (x : ℕ). x < 2 ^ dimensionOf m t) (sym systematic-high) small));
+    roots =
+        parity-roots (parityOf m t) (generatorOf m t) (top m t K) m (laws m (K .m-low) (K .m-high)) 1 (2 * t) (good m t K .roots)
+        (dimensionOf m t) M
         (omega (arith, parity-full m t K));
   }
 
-pub codeword-high : (m t : ℕ) → Known m t → (w v : ℕ) → Codeword m t w → Codeword m t v → w / 2 ^ parityOf m t ≡ v / 2 ^ parityOf m t → w ≡ v
+pub codeword-high : (m t : ℕ) → Known m t → (w v : ℕ) → Codeword m t w → Codeword m t v → w / 2 ^ parityOf m t ≡ v / 2 ^ parityOf m t
+    → w ≡ v
 codeword-high m t k w v hw hv =
     same-high m (laws m (k .m-low) (k .m-high)) 1 (2 * t) (parityOf m t) (good m t k .low) w v (hw .roots) (hv .roots)

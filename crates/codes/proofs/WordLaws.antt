@@ -8,7 +8,7 @@ use lib.Pow.{shr-shr, pow-pos, pow-add}
 use mathlib.Core.Logic.{_≢_}
 use Rattle.field.specs.Field.{_⊕_}
 use Rattle.field.proofs.XorLaws.{xor-half, xor-odd, xor-eq, xor-lt, xor-self, xor-zero}
-use Rattle.codes.specs.Word.{bitOf, bitOf, wordOf}
+use Rattle.codes.specs.Codeword.{bitOf, bitOf, wordOf}
 
 pub bit-shift : (w p : ℕ) → bitOf w p ≡ w / 2 ^ p % 2
 unfolding bitOf
@@ -59,7 +59,8 @@ bit-double w p = ap (λ (x : ℕ). bitOf x p) (mul-div-cancel w (zero-lt-suc 1))
 -- two numbers with the same bits
 pub bit-ext : (w v k : ℕ) → w < 2 ^ k → v < 2 ^ k → ((p : ℕ) → p < k → bitOf w p ≡ bitOf v p) → w ≡ v
 bit-ext w v k hw hv h =
-    xor-eq w v (bits-zero (w ⊕ v) k (xor-lt k w v hw hv) (λ p l. bit-xor w v p ∙ ap (λ (u : ℕ). u ⊕ bitOf v p) (h p l) ∙ xor-self (bitOf v p)))
+    xor-eq w v (bits-zero (w ⊕ v) k (xor-lt k w v hw hv)
+    (λ p l. bit-xor w v p ∙ ap (λ (u : ℕ). u ⊕ bitOf v p) (h p l) ∙ xor-self (bitOf v p)))
 
 pub word-lt : (k : ℕ) (c : ℕ → ℕ) → ((p : ℕ) → p < k → c p < 2) → wordOf k c < 2 ^ k
 unfolding wordOf

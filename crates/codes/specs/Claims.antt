@@ -13,9 +13,8 @@ use Prim.Native.Nat.{ℕ, _+_, _-_, _*_, _/_, _^_, _<_, _≤_}
 use lib.Dec.{eqb}
 use Rattle.field.specs.Below.{countWhere}
 use Rattle.field.specs.Field.{alphaTo, lengthOf}
-use Rattle.codes.specs.Word.{bitOf}
+use Rattle.codes.specs.Codeword.{bitOf, WordOver, ZeroFrom, Codeword}
 use Rattle.codes.specs.Code.{Known, dimensionOf, parityOf, generatorOf}
-use Rattle.codes.specs.Codeword.{WordOver, ZeroFrom, Codeword}
 use Rattle.codes.specs.Lagrange.{AllPlaces, others, quotients, cell, lagrange, shortCell}
 use Rattle.codes.specs.Generator.{multiple, systematic}
 
@@ -37,7 +36,8 @@ CodewordsAreApart = (m t : ℕ) → Known m t → (w v : ℕ) → Codeword m t w
 -- "the resulting n-2t bits fix one Reed-Solomon word" (document 01, "The search")
 abbrev pub PlacesFixAWord : Type 0
 PlacesFixAWord = (m b r : ℕ) → 4 ≤ m → m ≤ 6 → b ≤ 1 → r ≤ lengthOf m → (R : ℕ → ℕ) → AllPlaces m R → (c : ℕ → ℕ) → WordOver m c
-    → ZeroFrom m b r c ↔ ((j : ℕ) → lengthOf m - r ≤ j → j < lengthOf m → c (R j) ≡ lagrange m (1 - b) R (lengthOf m - r) (λ i. c (R i)) (R j))
+    → ZeroFrom m b r c
+    ↔ ((j : ℕ) → lengthOf m - r ≤ j → j < lengthOf m → c (R j) ≡ lagrange m (1 - b) R (lengthOf m - r) (λ i. c (R i)) (R j))
 
 abbrev pub CellsAreThePapers : Type 0
 CellsAreThePapers = (m : ℕ) → 4 ≤ m → m ≤ 6 → (R : ℕ → ℕ) (k j p : ℕ)

@@ -6,7 +6,7 @@
 -- Assumes nothing.
 use Prim.Native.Nat.{ℕ, zero, suc, _+_, _*_, _/_, _%_, _^_}
 use Rattle.field.specs.Field.{_⊕_, bitTimes}
-use Rattle.codes.specs.Word.{bitOf}
+use Rattle.codes.specs.Codeword.{bitOf}
 use Rattle.codes.specs.Code.{dimensionOf, parityOf, generatorOf}
 
 unfoldable pub multiple : ℕ → ℕ → ℕ → ℕ

@@ -1,4 +1,3 @@
-pub mod Word
 pub mod Code
 pub mod Codeword
 pub mod Lagrange

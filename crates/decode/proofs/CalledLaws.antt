@@ -13,8 +13,9 @@ use Rattle.search.specs.Positions.{positions, searchOver}
 use Rattle.search.specs.Claims.{Case}
 use Rattle.search.proofs.PositionLaws.{positions-sorted}
 use Rattle.search.proofs.ClaimsShown.{best-is-nearest, candidates-are-counted, nothing-is-missed}
-use Rattle.decode.specs.Decode.{DecodeAnswers, refused, nothing, decoded, refusing}
-use Rattle.decode.specs.Called.{Call, Result, checksOf, foundIf, checked, resultOf}
+use Rattle.decode.specs.Decode.{DecodeAnswers, refused, nothing, decoded}
+use Rattle.decode.specs.Call.{refusing, Call, Result, checksOf}
+use Rattle.decode.specs.Called.{foundIf, checked, resultOf}
 use Rattle.decode.proofs.DecodeOneAnswer.{decode-one-answer}
 
 -- a result is what the contract permits for a call
@@ -53,7 +54,8 @@ module _ (c : Call) (e : checksOf c ≡ 0) where
         writes = refl;
       })
   found-answers false q =
-      nothing e (λ w h. subst T q (nothing-is-missed (c .m) 1 (2 * c .t) (c .order) (c .soft) R case w h)) (record { says = refl; keeps = refl })
+      nothing e (λ w h. subst T q (nothing-is-missed (c .m) 1 (2 * c .t) (c .order) (c .soft) R case w h))
+      (record { says = refl; keeps = refl })
 
 pub result-answers : (c : Call) → Answers c (resultOf c)
 unfolding resultOf searchOver

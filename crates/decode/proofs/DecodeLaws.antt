@@ -10,7 +10,7 @@ use lib.IntN.{ℤ}
 use lib.ListN.{length}
 use Rattle.field.proofs.FieldLaws.{laws}
 use Rattle.codes.proofs.ShapeLaws.{roots-fit}
-use Rattle.frame.specs.Packing.{written}
+use Rattle.words.specs.Packing.{written}
 use Rattle.frame.specs.Refusal.{decodeRefusal}
 use Rattle.frame.proofs.RefusalLaws.{DecodePassed, decode-passed}
 use Rattle.search.specs.Best.{Best}
@@ -20,7 +20,8 @@ use Rattle.search.specs.ByRank.{rankSearched}
 use Rattle.search.specs.Claims.{Case}
 use Rattle.search.proofs.RankSearch.{rank-search-is}
 use Rattle.search.proofs.ClaimsShown.{best-is-nearest, candidates-are-counted, nothing-is-missed}
-use Rattle.decode.specs.Decode.{Decoded, DecodeAnswers, refused, nothing, decoded, refusing}
+use Rattle.decode.specs.Decode.{Decoded, DecodeAnswers, refused, nothing, decoded}
+use Rattle.decode.specs.Call.{refusing}
 
 -- what a best says in an answer
 abbrev pub telling : Best → Rattle.decode.specs.declared.Decoding.Decoding
@@ -61,10 +62,12 @@ module _ (m t s order : ℕ) (soft : List ℤ) (before : List ℕ) (N : ℕ) (e 
 
       pub decode-finds-none : not (x .found) ≡ true → DecodeAnswers m t s order soft before (refusing 6) before
       decode-finds-none f =
-          nothing passes (λ w c. subst T (ap (λ (y : Best). y .found) (sym is-search) ∙ flipped-true (x .found) f) (nothing-is-missed m 1 (2 * t) order soft (p .place) case w c))
+          nothing passes (λ w c. subst T (ap (λ (y : Best). y .found) (sym is-search) ∙ flipped-true (x .found) f)
+          (nothing-is-missed m 1 (2 * t) order soft (p .place) case w c))
           (record { says = refl; keeps = refl })
 
-      pub decode-finds : not (x .found) ≡ false → (after : List ℕ) → after ≡ written m (x .word) before → DecodeAnswers m t s order soft before (telling x) after
+      pub decode-finds : not (x .found) ≡ false → (after : List ℕ) → after ≡ written m (x .word) before
+          → DecodeAnswers m t s order soft before (telling x) after
       decode-finds f after w =
           decoded passes (subst (λ (y : Best). Decoded m t order soft before (telling y) after) (sym is-search) (record {
             word = best .word;
@@ -79,7 +82,7 @@ module _ (m t s order : ℕ) (soft : List ℤ) (before : List ℕ) (N : ℕ) (e 
           best : Best
           best = searched m 1 (2 * t) (p .place) soft order
 
-          known : Rattle.search.specs.Candidate.Nearest m 1 (2 * t) order soft (best .word)
+          known : Rattle.soft.specs.Candidate.Nearest m 1 (2 * t) order soft (best .word)
               × (best .distance ≡ Rattle.soft.specs.Distance.softDistance m soft (best .word))
               × (best .flips ≡ Rattle.soft.specs.Distance.flipsOf m soft (best .word))
           known =

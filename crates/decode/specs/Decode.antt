@@ -1,5 +1,4 @@
 -- The decode call: its one permitted answer and buffer (demand 2; document 01, "The search", "What each call says no to").
---   refusing N      the answer that refuses with the number N
 --   Refused         a refusal, and the buffer as it was
 --   Decoded         a word, and the word in the buffer
 --   DecodeAnswers   the call's contract
@@ -11,15 +10,13 @@ use Prim.Native.Nat.{ℕ, _*_}
 use lib.IntN.{ℤ}
 use lib.ListN.{length}
 use Rattle.soft.specs.Distance.{softDistance, flipsOf}
-use Rattle.search.specs.Candidate.{Candidate, Nearest, Counted}
-use Rattle.frame.specs.Packing.{written}
+use Rattle.soft.specs.Candidate.{Candidate, Nearest, Counted}
+use Rattle.words.specs.Packing.{written}
 use Rattle.frame.specs.Refusal.{decodeRefusal}
+use Rattle.decode.specs.Call.{refusing}
 use Rattle.decode.specs.declared.Decoding.{Decoding}
 
--- "A refusal returns its number with all other fields zero, and no byte of the buffer changes."
-abbrev pub refusing : ℕ → Decoding
-refusing N = record { refusal = N; distance = 0; flips = 0; candidates = 0 }
-
+-- ".. and no byte of the buffer changes"
 pub record Refused (N : ℕ) (before : List ℕ) (answer : Decoding) (after : List ℕ) : Type 0 where
   pub says : answer ≡ refusing N
   pub keeps : after ≡ before

@@ -1,2 +1,3 @@
+pub mod Call
 pub mod Decode
 pub mod Called

@@ -1,6 +1,9 @@
 // The decode call: for any input whatever, the paper's one answer.
 ghost use mathlib.Core.Path.{_≡_};
-ghost use Rattle.decode.specs.Decode.{DecodeAnswers, refusing};
+ghost use Rattle.decode.specs.Decode.{DecodeAnswers};
+ghost use Rattle.decode.specs.Call.{refusing};
+use frame::NO_CANDIDATE;
+use frame::TAKEN;
 
 // What decode answers: a refusal's number and nothing else, or 0 and what is known of the word in the buffer.
 pub struct Decoding {
@@ -9,11 +12,6 @@ pub struct Decoding {
     pub flips: u8,
     pub candidates: u32,
 }
-
-// What stands for a refusal's number where nothing is refused, and the number where no candidate exists.
-const TAKEN: u8 = 0;
-
-const NO_CANDIDATE: u8 = 6;
 
 fn refuse(number: u8) -> Decoding
     ensures { λ r. ⌜ r ≡ refusing number ⌝ }
@@ -31,7 +29,7 @@ pub fn decode(m: u16, t: u16, s: u16, order: u16, soft: &[i8], buf: &mut [u8]) -
     ensures { λ r. ⌜ DecodeAnswers m t s order (now (soft .entry)) (now (buf .entry)) r (now (buf .exit)) ⌝ }
 {
     let refusal = frame::decode_refusal(m, t, s, order, soft.len(), buf.len());
-    if 0 < refusal {
+    if TAKEN < refusal {
         return refuse(refusal);
     }
     let prepared = prepare::prepare(m as u8, t as u8, soft);
@@ -39,8 +37,8 @@ pub fn decode(m: u16, t: u16, s: u16, order: u16, soft: &[i8], buf: &mut [u8]) -
     if !best.found {
         return refuse(NO_CANDIDATE);
     }
-    let width = frame::bytes_of(m);
-    frame::put_word(best.word, width, buf);
+    let width = words::bytes_of(m);
+    words::put_word(best.word, width, buf);
     Decoding {
         refusal: TAKEN,
         distance: best.distance,

@@ -2,15 +2,16 @@
 use mathlib.Core.Path.{_≡_, refl, sym, _∙_, subst}
 use native.Mathlib.Omega.{arith}
 use lib.Dec.{ltb→lt}
-use Rattle.decode.specs.Called.{checksOf}
-use Rattle.demands.specs.Nearest.{Returns}
+use Rattle.decode.specs.Call.{checksOf}
+use Rattle.demands.specs.Decodes.{Returns}
 use Rattle.demands.specs.Demand3.{AtEquality}
-use Rattle.demands.specs.SettledCalls.{calling, tied}
-use Rattle.demands.specs.Settled.{giving}
-use Rattle.demands.proofs.Computing.{computing}
+use Rattle.settled.specs.SettledCalls.{calling, tied}
+use Rattle.settled.specs.Settled.{giving}
+use Rattle.settled.proofs.Computing.{computing}
 use Rattle.demands.proofs.DemandsAreContracts.{decodes-one}
-use Rattle.demands.proofs.SettledWords.{passes-1, sent-tied, equal-tied}
-use Rattle.demands.proofs.SettledShown.{p10}
+use Rattle.settled.proofs.SettledWords.{passes-1}
+use Rattle.demands.proofs.SentWords.{sent-tied, equal-tied}
+use Rattle.settled.proofs.SettledShown.{p10}
 
 -- what P10 gives is the zero word
 zero-returned : Returns (calling 1 tied) 0 (giving 0 0 10 1 2)

@@ -13,13 +13,13 @@ use Rattle.codec.proofs.encode.Kinds as encode-kinds
 use Rattle.codec.proofs.encode.Reads as encode-reads
 use Rattle.codec.proofs.read.Kinds as read-kinds
 use Rattle.codec.proofs.read.Reads as read-reads
-use Rattle.decode.specs.Called.{Call, Result}
+use Rattle.decode.specs.Call.{Call, Result}
 use Rattle.decode.proofs.CalledLaws.{answers-as-result}
 use Rattle.decode.proofs.decode.Kinds as decode-kinds
 use Rattle.decode.proofs.decode.Reads as decode-reads
-use Rattle.demands.specs.Calls.{Encoding}
+use Rattle.codec.specs.Call.{Encoding}
 use Rattle.demands.specs.Ours.{ours}
-use Rattle.demands.proofs.OursAnswer.{encoding-answers, reading-answers}
+use Rattle.codec.proofs.CalledLaws.{encoding-answers, reading-answers}
 
 abbrev pub EncodeIsOurs : Type 0
 EncodeIsOurs = (κs : Lfts 1) (a : Dens κs encode-kinds.ps)
@@ -54,7 +54,8 @@ DecodeIsOurs = (κs : Lfts 2) (a : Dens κs decode-kinds.ps)
 pub encode-is-ours : EncodeIsOurs
 encode-is-ours κs a = (
   tt,
-  λ r e h. let p = encode-one-answer _ _ _ _ _ _ _ _ _ h (encoding-answers (a .0) (a .1 .0) (a .1 .1 .0) (a .1 .1 .1 .0) (now (a .1 .1 .1 .1 .0))) in
+  λ r e h. let p = encode-one-answer _ _ _ _ _ _ _ _ _ h
+      (encoding-answers (a .0) (a .1 .0) (a .1 .1 .0) (a .1 .1 .1 .0) (now (a .1 .1 .1 .1 .0))) in
       λ i. record { answer = p .0 i; after = p .1 i },
 )
 

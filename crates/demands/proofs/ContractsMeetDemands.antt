@@ -1,4 +1,4 @@
--- Whatever keeps the contracts of the three calls meets demands 1 and 2. Assumes nothing.
+-- Whatever keeps the contracts of the three calls meets demands 1 and 2; ours keep them. Assumes nothing.
 use mathlib.Core.Path.{_≡_, refl, sym, ap, _∙_, subst}
 use mathlib.Core.Logic.{inl, inr}
 use mathlib.Core.List.{List}
@@ -6,19 +6,24 @@ use Prim.Native.Nat.{ℕ, _*_}
 use native.Mathlib.Omega.{arith}
 use lib.ListN.{length}
 use Rattle.codes.proofs.SystematicWord.{codeword-high}
-use Rattle.search.specs.Candidate.{Candidate}
+use Rattle.soft.specs.Candidate.{Candidate}
 use Rattle.frame.specs.Refusal.{encodeRefusal, readRefusal}
 use Rattle.frame.proofs.RefusalLaws.{encode-known}
 use Rattle.codec.specs.Encode.{EncodeAnswers, refused, encoded}
-use Rattle.codec.specs.Read.{ReadAnswers, says}
+use Rattle.codec.specs.Read.{ReadAnswers}
+use Rattle.codec.specs.Call.{says, Encoding}
 use Rattle.codec.specs.declared.Reading.{Reading}
 use Rattle.codec.proofs.RoundTrip.{encode-then-read}
+use Rattle.codec.proofs.CalledLaws.{encoding-answers, reading-answers}
 use Rattle.decode.specs.Decode.{Refused, DecodeAnswers}
-use Rattle.decode.specs.Called.{Call, Result, checksOf, refusedWith}
-use Rattle.demands.specs.Calls.{Encoding, Calls, Contracts}
+use Rattle.decode.specs.Call.{Call, Result, checksOf, refusedWith}
+use Rattle.decode.proofs.CalledLaws.{result-answers}
+use Rattle.demands.specs.Calls.{Calls}
+use Rattle.demands.specs.Contracts.{Contracts}
 use Rattle.demands.specs.Demand1.{EncodeFixed, ReadFixed, DecodeFixed, Demand1}
-use Rattle.demands.specs.Nearest.{Among, Decodes}
+use Rattle.demands.specs.Decodes.{Among, Decodes}
 use Rattle.demands.specs.Demand2.{Encodes, Reads, Demand2}
+use Rattle.demands.specs.Ours.{ours}
 
 module _ (m t s message : ℕ) (before : List ℕ) (y : Encoding) where
   encode-fixed : EncodeAnswers m t s message before (y .answer) (y .after) → EncodeFixed m t s message before y
@@ -31,7 +36,9 @@ module _ (m t s message : ℕ) (before : List ℕ) (y : Encoding) where
   encode-encodes e (encoded _ h u) = record {
     word = u .word;
     of = record { codeword = u .codeword; high = u .high; unsent = u .unsent };
-    one = λ v k. codeword-high m t (encode-known m t s message (length before) e) v (u .word) (k .codeword) (u .codeword) (k .high ∙ sym (u .high));
+    one =
+        λ v k. codeword-high m t (encode-known m t s message (length before) e) v (u .word) (k .codeword) (u .codeword)
+        (k .high ∙ sym (u .high));
     gives = λ i. record { answer = h i; after = u .writes i };
   }
 
@@ -68,7 +75,8 @@ module _ (c : Call) where
     decode-fixed (DecodeAnswers.nothing e f k) = record { refused = λ n. absurd (n e); passed = λ _. inr (refused-whole 6 k) }
     decode-fixed (DecodeAnswers.decoded e k) = record { refused = λ n. absurd (n e); passed = λ _. inl (k .refusal) }
 
-    decode-decodes : checksOf c ≡ 0 → DecodeAnswers (c .m) (c .t) (c .s) (c .order) (c .soft) (c .before) (y .answer) (y .after) → Decodes c y
+    decode-decodes : checksOf c ≡ 0 → DecodeAnswers (c .m) (c .t) (c .s) (c .order) (c .soft) (c .before) (y .answer) (y .after)
+        → Decodes c y
     decode-decodes e (DecodeAnswers.refused n k) = absurd (n e)
     decode-decodes e (DecodeAnswers.nothing _ f k) = record {
       none = λ _. refused-whole 6 k;
@@ -83,7 +91,14 @@ module _ (c : Call) where
           least = λ v h. k .nearest .least v (among-candidate v h);
           lowest = λ v h e. omega (arith, k .nearest .lowest v (among-candidate v h) e);
         },
-        record { bits = k .nearest .candidate .codeword .bits; refusal = k .refusal; distance = k .distance; flips = k .flips; writes = k .writes },
+        record {
+          bits = k .nearest .candidate .codeword .bits;
+          refusal = k .refusal;
+          distance = k .distance;
+          flips = k .flips;
+          writes =
+              k .writes;
+        },
         record {
           list = k .candidates .list;
           once = k .candidates .once;
@@ -117,3 +132,7 @@ module _ (x : Calls) (h : Contracts x) where
     back = brings-back;
     decode = λ c e. decode-decodes c _ e (h .decode c);
   }
+
+-- and ours keep the contracts
+pub ours-answer : Contracts ours
+ours-answer = record { encode = encoding-answers; read = reading-answers; decode = result-answers }

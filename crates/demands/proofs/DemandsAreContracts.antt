@@ -8,14 +8,18 @@ use Rattle.codec.specs.Encode.{EncodeAnswers, refused, encoded}
 use Rattle.codec.specs.Read.{ReadAnswers}
 use Rattle.codec.proofs.CodecOneAnswer.{encode-one-answer, read-one-answer}
 use Rattle.decode.specs.Decode.{Refused, DecodeAnswers}
-use Rattle.decode.specs.Called.{Call, Result, checksOf, refusedWith, resultOf}
+use Rattle.decode.specs.Call.{Call, Result, checksOf, refusedWith}
+use Rattle.decode.specs.Called.{resultOf}
 use Rattle.decode.proofs.CalledLaws.{Answers, result-answers, answers-as-result}
-use Rattle.demands.specs.Calls.{Encoding, Calls, Contracts}
+use Rattle.codec.specs.Call.{Encoding}
+use Rattle.demands.specs.Calls.{Calls}
+use Rattle.demands.specs.Contracts.{Contracts}
 use Rattle.demands.specs.Demand1.{Demand1}
-use Rattle.demands.specs.Nearest.{Decodes}
+use Rattle.demands.specs.Decodes.{Decodes}
 use Rattle.demands.specs.Demand2.{Demand2}
-use Rattle.demands.specs.Ours.{encodingOf, readingOf, ours}
-use Rattle.demands.proofs.OursAnswer.{encoding-answers, reading-answers}
+use Rattle.codec.specs.Called.{encodingOf, readingOf}
+use Rattle.demands.specs.Ours.{ours}
+use Rattle.codec.proofs.CalledLaws.{encoding-answers, reading-answers}
 use Rattle.demands.proofs.ContractsMeetDemands.{candidate-among, among-candidate}
 
 refused-as : (c : Call) (y : Result) (N : ℕ) → y ≡ refusedWith N c → Refused N (c .before) (y .answer) (y .after)
@@ -67,7 +71,8 @@ module _ (x : Calls) (first : Demand1 x) (second : Demand2 x) where
         writes = ap (λ (y : Encoding). y .after) (u .gives);
       })
 
-  read-keeps : (m t s : ℕ) (bytes : List ℕ) → ReadAnswers m t s bytes (readingOf m t s bytes) → ReadAnswers m t s bytes (x .read m t s bytes)
+  read-keeps : (m t s : ℕ) (bytes : List ℕ) → ReadAnswers m t s bytes (readingOf m t s bytes)
+      → ReadAnswers m t s bytes (x .read m t s bytes)
   read-keeps m t s bytes (ReadAnswers.refused n _) = ReadAnswers.refused n (first .read m t s bytes .refused n)
   read-keeps m t s bytes (ReadAnswers.unreadable e f _) =
       ReadAnswers.unreadable e f (second .read m t s bytes e .none (λ message k. f (record { codeword = k .codeword; unsent = k .unsent })))
@@ -88,7 +93,8 @@ module _ (x : Calls) (first : Demand1 x) (second : Demand2 x) where
 
   pub encode-as-ours : (m t s message : ℕ) (before : List ℕ) → x .encode m t s message before ≡ ours .encode m t s message before
   encode-as-ours m t s message before =
-      let p = encode-one-answer m t s message before _ _ _ _ (contracts-kept .encode m t s message before) (encoding-answers m t s message before) in
+      let p = encode-one-answer m t s message before _ _ _ _ (contracts-kept .encode m t s message before)
+      (encoding-answers m t s message before) in
       λ i. record { answer = p .0 i; after = p .1 i }
 
   pub read-as-ours : (m t s : ℕ) (bytes : List ℕ) → x .read m t s bytes ≡ ours .read m t s bytes

@@ -1,10 +1,7 @@
-pub mod OursAnswer
 pub mod ContractsMeetDemands
 pub mod DemandsAreContracts
 pub mod SecondGivesThird
-pub mod Computing
-pub mod SettledWords
-pub mod SettledShown
+pub mod SentWords
 pub mod AtEquality
 pub mod RejectedShown
 pub mod CompiledCalls

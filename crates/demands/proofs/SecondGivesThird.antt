@@ -9,12 +9,12 @@ use lib.ListN.{length}
 use Rattle.codes.specs.Code.{Known}
 use Rattle.codes.specs.Codeword.{Codeword}
 use Rattle.sent.proofs.ClaimsShown.{others-are-farther}
-use Rattle.frame.specs.Packing.{wordIn}
-use Rattle.frame.proofs.PackingLaws.{written-read}
+use Rattle.words.specs.Packing.{wordIn}
+use Rattle.words.proofs.PackingLaws.{written-read}
 use Rattle.frame.proofs.RefusalLaws.{decode-passed}
-use Rattle.decode.specs.Called.{Call, Result, checksOf}
+use Rattle.decode.specs.Call.{Call, Result, checksOf}
 use Rattle.demands.specs.Calls.{Calls}
-use Rattle.demands.specs.Nearest.{distanceOf, Chosen, Returns}
+use Rattle.demands.specs.Decodes.{distanceOf, Chosen, Returns}
 use Rattle.demands.specs.Demand2.{Demand2}
 use Rattle.demands.specs.Demand3.{wrongSum, rightSum, Sent, Demand3}
 

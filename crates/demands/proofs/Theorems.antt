@@ -5,16 +5,18 @@ use Prim.Native.Nat.{ℕ}
 use lib.IntN.{ℤ}
 use Rattle.field.specs.Laws.{FieldsAreLawful}
 use Rattle.field.proofs.FieldLaws.{laws}
-use Rattle.codes.specs.Claims.{GeneratorsAreRight, OneWordForEachMessage, CodewordsAreApart, PlacesFixAWord, CellsAreThePapers, CellsAreShort}
+use Rattle.codes.specs.Claims.{GeneratorsAreRight, OneWordForEachMessage, CodewordsAreApart, PlacesFixAWord, CellsAreThePapers}
+use Rattle.codes.specs.Claims.{CellsAreShort}
 use Rattle.codes.proofs.ClaimsShown as codes
 use Rattle.soft.specs.Claims.{SortedByRank, FirstAreReliable, DistancesAreSmall}
 use Rattle.soft.proofs.OrderLaws as order
 use Rattle.soft.proofs.DistanceLaws as distance
-use Rattle.search.specs.Claims.{PatternsAreCounted, PatternsAreBinomials, EveryCandidateHasOnePattern, BinaryPatternsAreCandidates, BestIsNearest, CandidatesAreCounted, NothingIsMissed}
+use Rattle.search.specs.Claims.{PatternsAreCounted, PatternsAreBinomials, EveryCandidateHasOnePattern, BinaryPatternsAreCandidates}
+use Rattle.search.specs.Claims.{BestIsNearest, CandidatesAreCounted, NothingIsMissed}
 use Rattle.search.proofs.ClaimsShown as search-shown
 use Rattle.sent.specs.Claims.{SmallestAreLeast, OthersAreFarther, SentIsNearest}
 use Rattle.sent.proofs.ClaimsShown as sent-shown
-use Rattle.frame.proofs.PackedBits.{packed-bit}
+use Rattle.words.proofs.PackedBits.{packed-bit}
 use Rattle.codec.proofs.CodecOneAnswer as codec
 use Rattle.codec.proofs.RoundTrip as trip
 use Rattle.codec.proofs.encode.Statement as encode-stated
@@ -24,26 +26,41 @@ use Rattle.codec.proofs.read.Met as read-met
 use Rattle.decode.proofs.DecodeOneAnswer as decode
 use Rattle.decode.proofs.decode.Statement as decode-stated
 use Rattle.decode.proofs.decode.Met as decode-met
+use Rattle.gf.proofs.inverse.Statement as inverse-stated
+use Rattle.gf.proofs.inverse.Met as inverse-met
 use Rattle.export.proofs.ToldOneAnswer as told
-use Rattle.stream.specs.Claims.{BlocksDoNotMatter, AnsweredAtOnce, NothingAfterTheEnd, NothingIsGuessed, UnfinishedLinesWait}
-use Rattle.stream.proofs.ClaimsShown as stream-shown
-use Rattle.demands.specs.Demands.{ContractsMeetDemands, OursMeetDemands, DemandsAreContracts, NothingElseMeetsThem, SecondGivesThird, EqualityIsNotPromised}
+use Rattle.export.proofs.malligovu_encode.Statement as c-encode-stated
+use Rattle.export.proofs.malligovu_encode.Met as c-encode-met
+use Rattle.export.proofs.malligovu_read.Statement as c-read-stated
+use Rattle.export.proofs.malligovu_read.Met as c-read-met
+use Rattle.export.proofs.malligovu_decode.Statement as c-decode-stated
+use Rattle.export.proofs.malligovu_decode.Met as c-decode-met
+use Rattle.stream.proofs.step.Statement as step-stated
+use Rattle.stream.proofs.step.Met as step-met
+use Rattle.stream.proofs.end.Statement as end-stated
+use Rattle.stream.proofs.end.Met as end-met
+use Rattle.lines.specs.Claims.{BlocksDoNotMatter, AnsweredAtOnce, NothingAfterTheEnd, NothingIsGuessed, UnfinishedLinesWait}
+use Rattle.lines.proofs.ClaimsShown as stream-shown
+use Rattle.demands.specs.Claims.{ContractsMeetDemands, OursMeetDemands, DemandsAreContracts, NothingElseMeetsThem, SecondGivesThird}
+use Rattle.demands.specs.Claims.{EqualityIsNotPromised}
 use Rattle.demands.specs.Ours.{ours}
 use Rattle.demands.specs.Rejected.{WrongVersionsAreRejected}
 use Rattle.demands.specs.Wrong.{WrongVersionsExist}
-use Rattle.demands.specs.Settled.{settled, Each}
-use Rattle.demands.specs.OneAnswer.{EncodeHasOneAnswer, ReadHasOneAnswer, DecodeHasOneAnswer, DecodeTellsOneAnswer, ReadTellsOneAnswer}
+use Rattle.settled.specs.Settled.{settled, Each}
+use Rattle.demands.specs.OneAnswer.{EncodeHasOneAnswer, ReadHasOneAnswer, DecodeHasOneAnswer, DecodeTellsOneAnswer}
+use Rattle.demands.specs.OneAnswer.{ReadTellsOneAnswer}
 use Rattle.demands.specs.Packed.{BitsArePacked}
 use Rattle.demands.specs.BringsBack.{ReadBringsBack, EncodeWritesAgain}
-use Rattle.demands.proofs.OursAnswer.{ours-answer}
-use Rattle.demands.proofs.ContractsMeetDemands.{meets-first, meets-second}
+use Rattle.demands.proofs.ContractsMeetDemands.{meets-first, meets-second, ours-answer}
 use Rattle.demands.proofs.DemandsAreContracts.{contracts-kept, encode-as-ours, read-as-ours, decode-as-ours}
 use Rattle.demands.proofs.SecondGivesThird as third
 use Rattle.demands.proofs.CompiledCalls as compiled
 use Rattle.demands.proofs.CompiledCalls.{EncodeIsOurs, ReadIsOurs, DecodeIsOurs}
 use Rattle.demands.proofs.AtEquality.{equality-shown}
 use Rattle.demands.proofs.RejectedShown as wrong
-use Rattle.demands.proofs.SettledShown as shown
+use Rattle.settled.proofs.SettledShown as shown
+use Rattle.settled.specs.WholeExample.{WholeExample}
+use Rattle.settled.proofs.WholeExampleShown as whole
 
 -- the demands: whatever keeps the contracts meets them, ours do, and nothing else does
 pub second-gives-third : SecondGivesThird
@@ -93,7 +110,23 @@ wrong-versions-exist = wrong.wrong-exist
 pub settled-examples : Each settled
 settled-examples = shown.settled-shown
 
+pub whole-example : WholeExample
+whole-example = whole.whole-example
+
+-- the functions of the C interface meet their contracts
+pub c-encode-meets-its-contract : {M : Type 1} → c-encode-stated.statement M
+c-encode-meets-its-contract = c-encode-met.met
+
+pub c-read-meets-its-contract : {M : Type 1} → c-read-stated.statement M
+c-read-meets-its-contract = c-read-met.met
+
+pub c-decode-meets-its-contract : {M : Type 1} → c-decode-stated.statement M
+c-decode-meets-its-contract = c-decode-met.met
+
 -- the fields and the codes
+pub inverse-meets-its-contract : {M : Type 1} → inverse-stated.statement M
+inverse-meets-its-contract = inverse-met.met
+
 pub fields-are-lawful : FieldsAreLawful
 fields-are-lawful = laws
 
@@ -184,7 +217,13 @@ read-brings-back = trip.encode-then-read
 pub encode-writes-again : EncodeWritesAgain
 encode-writes-again = trip.read-then-encode
 
--- the program
+-- the program: its step over a block and its end meet their contracts, and what follows for whole inputs
+pub step-meets-its-contract : {M : Type 1} → step-stated.statement M
+step-meets-its-contract = step-met.met
+
+pub end-meets-its-contract : {M : Type 1} → end-stated.statement M
+end-meets-its-contract = end-met.met
+
 pub blocks-do-not-matter : BlocksDoNotMatter
 blocks-do-not-matter = stream-shown.blocks-do-not-matter
 

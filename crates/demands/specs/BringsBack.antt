@@ -5,7 +5,8 @@ use mathlib.Core.List.{List}
 use Prim.Native.Nat.{ℕ, _<_}
 use lib.ListN.{getD}
 use Rattle.codec.specs.Encode.{EncodeAnswers}
-use Rattle.codec.specs.Read.{ReadAnswers, says}
+use Rattle.codec.specs.Read.{ReadAnswers}
+use Rattle.codec.specs.Call.{says}
 use Rattle.codec.specs.declared.Reading.{Reading}
 
 -- what encode wrote, read brings back

@@ -11,14 +11,15 @@ use mathlib.Core.List.{List}
 use Prim.Native.Nat.{ℕ}
 use lib.ListN.{length}
 use Rattle.frame.specs.Refusal.{encodeRefusal, readRefusal}
-use Rattle.codec.specs.Read.{says}
+use Rattle.codec.specs.Call.{says, Encoding}
 use Rattle.codec.specs.declared.Reading.{Reading}
-use Rattle.decode.specs.Called.{Call, Result, checksOf, refusedWith}
-use Rattle.demands.specs.Calls.{Encoding, Calls}
+use Rattle.decode.specs.Call.{Call, Result, checksOf, refusedWith}
+use Rattle.demands.specs.Calls.{Calls}
 
 -- "A refusal returns its number with all other fields zero, and no byte of the buffer changes." Where no check is met, encode succeeds
 pub record EncodeFixed (m t s message : ℕ) (before : List ℕ) (y : Encoding) : Type 0 where
-  pub refused : encodeRefusal m t s message (length before) ≢ 0 → y ≡ record { answer = encodeRefusal m t s message (length before); after = before }
+  pub refused : encodeRefusal m t s message (length before) ≢ 0
+      → y ≡ record { answer = encodeRefusal m t s message (length before); after = before }
   pub passed : encodeRefusal m t s message (length before) ≡ 0 → y .answer ≡ 0
 
 -- where no check is met, read succeeds or refuses with 8

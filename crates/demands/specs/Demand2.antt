@@ -1,5 +1,5 @@
 -- Demand 2: "Words are those of the binary BCH codes, by their roots. The encoder sends each message to its one word and the reader
--- brings it back. The decoder returns .." the nearest (Nearest). "The checks of demand 1 come before that."
+-- brings it back. The decoder returns .." the nearest (Decodes). "The checks of demand 1 come before that."
 --   WordOf m t s message w   w is a word of the message
 --   Encodes, Reads           what encode and read give back where their checks are passed
 --   Demand2 x                the demand
@@ -11,13 +11,13 @@ use lib.ListN.{length}
 use Rattle.field.specs.Field.{lengthOf}
 use Rattle.codes.specs.Code.{parityOf}
 use Rattle.codes.specs.Codeword.{Codeword}
-use Rattle.frame.specs.Packing.{written, wordIn}
+use Rattle.words.specs.Packing.{written, wordIn}
 use Rattle.frame.specs.Refusal.{encodeRefusal, readRefusal}
-use Rattle.codec.specs.Read.{says}
+use Rattle.codec.specs.Call.{says, Encoding}
 use Rattle.codec.specs.declared.Reading.{Reading}
-use Rattle.decode.specs.Called.{Call, checksOf}
-use Rattle.demands.specs.Calls.{Encoding, Calls}
-use Rattle.demands.specs.Nearest.{Decodes}
+use Rattle.decode.specs.Call.{Call, checksOf}
+use Rattle.demands.specs.Calls.{Calls}
+use Rattle.demands.specs.Decodes.{Decodes}
 
 -- "Message bit i stands at position n-k+i, for i below k-s; the unsent positions are 0; the low n-k positions are the parity that makes
 -- a codeword." A codeword's polynomial is zero at a^1, a^2, .., a^(2t)

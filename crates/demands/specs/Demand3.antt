@@ -1,7 +1,7 @@
 -- Demand 3: "Suppose a codeword was sent, zero in every unsent place, and at most 2t of its bits, e of them, were sliced wrongly, no more
 -- of those in the reliable set than the order allows. If the reliabilities at the wrong bits sum to less than the 2t+1-e smallest
 -- reliabilities at the right bits, the decoder returns that codeword and no other." It "speaks of a decode call that passes checks 1 to
--- 5; unsent positions are among its right bits, with their 127" (document 01). Whatever meets demand 2 meets it (Demands,
+-- 5; unsent positions are among its right bits, with their 127" (document 01). Whatever meets demand 2 meets it (Claims,
 -- SecondGivesThird), for every code, shortening and order: the code has nothing further to show.
 --   wrongBits c w   e, at how many places the word w that was sent differs from the hard decisions
 --   wrongSum c w    the sum of the reliabilities there
@@ -17,9 +17,9 @@ use Rattle.field.specs.Field.{lengthOf}
 use Rattle.codes.specs.Codeword.{Codeword}
 use Rattle.soft.specs.Distance.{softDistance, flipsOf, reliableFlips}
 use Rattle.sent.specs.Smallest.{smallest, rightReliabilities}
-use Rattle.decode.specs.Called.{Call, checksOf}
+use Rattle.decode.specs.Call.{Call, checksOf}
 use Rattle.demands.specs.Calls.{Calls}
-use Rattle.demands.specs.Nearest.{Returns}
+use Rattle.demands.specs.Decodes.{Returns}
 use Rattle.demands.specs.Demand2.{Demand2}
 
 abbrev pub wrongBits : Call → ℕ → ℕ

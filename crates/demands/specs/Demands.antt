@@ -1,51 +1,14 @@
--- Read this first: the customer's three demands, and what is claimed of them. A demand is made of any encoder, reader and decoder
--- whatever (Calls) and stands in the customer's words in a file of its own: Demand1 (every input gets an answer that the papers fix),
--- Demand2 (words, messages, the nearest codeword, the count), Demand3 (what was sent comes back). Each claim is proved under its name in
--- proofs/Theorems, which goes on to the compiled functions: they give back what ours give. Rejected has the versions that must not
--- pass, Settled the paper's examples, OneAnswer that the contracts permit one answer.
---   Demands x                the three demands
---   ContractsMeetDemands     whatever keeps the contracts of encode, read and decode meets the demands
---   OursMeetDemands          the functions that the three calls compute meet them
---   DemandsAreContracts      and what meets demands 1 and 2 keeps the contracts: the demands ask no less
---   NothingElseMeetsThem     so it gives what ours give
---   SecondGivesThird         demand 3 asks nothing further of a decoder: demand 2 implies it
---   EqualityIsNotPromised    in demand 3 "less than" cannot be "at most"
+-- Read this first: the customer's three demands. A demand is made of any encoder, reader and decoder whatever (Calls) and stands in the
+-- customer's words in a file of its own: Demand1 (every input gets an answer that the papers fix), Demand2 (words, messages, the nearest
+-- codeword, the count), Demand3 (what was sent comes back). What is claimed of them is in Claims.
+--   Demands x   the three demands
 -- Assumes nothing.
-use mathlib.Core.Path.{_≡_}
-use mathlib.Core.List.{List}
-use Prim.Native.Nat.{ℕ}
-use Rattle.decode.specs.Called.{Call}
-use Rattle.demands.specs.Calls.{Calls, Contracts}
+use Rattle.demands.specs.Calls.{Calls}
 use Rattle.demands.specs.Demand1.{Demand1}
 use Rattle.demands.specs.Demand2.{Demand2}
-use Rattle.demands.specs.Demand3.{Demand3, AtEquality}
-use Rattle.demands.specs.Ours.{ours}
-use Rattle.demands.specs.SettledCalls.{calling, tied}
+use Rattle.demands.specs.Demand3.{Demand3}
 
 pub record Demands (x : Calls) : Type 0 where
   pub first : Demand1 x
   pub second : Demand2 x
   pub third : Demand3 x
-
-abbrev pub ContractsMeetDemands : Type 0
-ContractsMeetDemands = (x : Calls) → Contracts x → Demands x
-
-abbrev pub OursMeetDemands : Type 0
-OursMeetDemands = Demands ours
-
-abbrev pub DemandsAreContracts : Type 0
-DemandsAreContracts = (x : Calls) → Demand1 x → Demand2 x → Contracts x
-
-abbrev pub NothingElseMeetsThem : Type 0
-NothingElseMeetsThem = (x : Calls) → Demand1 x → Demand2 x
-    → ((m t s message : ℕ) (before : List ℕ) → x .encode m t s message before ≡ ours .encode m t s message before)
-    × ((m t s : ℕ) (bytes : List ℕ) → x .read m t s bytes ≡ ours .read m t s bytes)
-    × ((c : Call) → x .decode c ≡ ours .decode c)
-
-abbrev pub SecondGivesThird : Type 0
-SecondGivesThird = (x : Calls) → Demand2 x → Demand3 x
-
--- P10: m=4, t=1, s=0, order 1, sent 04 60, values 10 but -10 at position 2 and 5 at 13 and 14. Both sums are 10, and the zero word, as
--- near and lower, comes back
-abbrev pub EqualityIsNotPromised : Type 0
-EqualityIsNotPromised = AtEquality (calling 1 tied) 0x6004 0

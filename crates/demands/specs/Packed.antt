@@ -3,8 +3,8 @@
 use mathlib.Core.Path.{_≡_}
 use Prim.Native.Nat.{ℕ, _*_, _/_, _%_, _<_}
 use lib.ListN.{getD}
-use Rattle.codes.specs.Word.{bitOf}
-use Rattle.frame.specs.Packing.{packed}
+use Rattle.codes.specs.Codeword.{bitOf}
+use Rattle.words.specs.Packing.{packed}
 
 abbrev pub BitsArePacked : Type 0
 BitsArePacked = (n w j : ℕ) → j < 8 * n → bitOf (getD (packed w n) (j / 8) 0) (j % 8) ≡ bitOf w j

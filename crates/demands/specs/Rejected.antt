@@ -6,8 +6,9 @@
 -- Assumes nothing.
 use mathlib.Core.Path.{_≡_}
 use mathlib.Core.Logic.{_≢_}
-use Rattle.frame.specs.Packing.{written}
-use Rattle.decode.specs.Called.{Call, checksOf, resultOf}
+use Rattle.words.specs.Packing.{written}
+use Rattle.decode.specs.Call.{Call, checksOf}
+use Rattle.decode.specs.Called.{resultOf}
 use Rattle.demands.specs.Calls.{Decoder, Calls}
 use Rattle.demands.specs.Demand2.{Demand2}
 use Rattle.demands.specs.Demand3.{Demand3}

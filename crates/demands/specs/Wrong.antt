@@ -1,8 +1,9 @@
 -- A function of each kind that has to be rejected (Rejected), so that none of the kinds is empty. The refuser and the zeroer know nothing
 -- of the codes; the others have the right answer at hand and spoil one thing.
 -- Assumes nothing.
-use Rattle.frame.specs.Packing.{written}
-use Rattle.decode.specs.Called.{refusedWith, resultOf}
+use Rattle.words.specs.Packing.{written}
+use Rattle.decode.specs.Call.{refusedWith}
+use Rattle.decode.specs.Called.{resultOf}
 use Rattle.demands.specs.Calls.{Decoder}
 use Rattle.demands.specs.Rejected.{RefusesAll, ZeroWord, WritesNothing, UnflippedOnly, InventsCount, unflipped}
 

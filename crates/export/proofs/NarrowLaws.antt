@@ -22,9 +22,11 @@ use Rattle.frame.specs.Refusal.{encodeRefusal, readRefusal, decodeRefusal}
 use Rattle.frame.proofs.RefusalLaws.{known-by, encode-passed, read-passed, decode-passed}
 use Rattle.frame.proofs.RefusalSteps.{at-1, at-2, at-3}
 use Rattle.codec.specs.Encode.{EncodeAnswers}
-use Rattle.codec.specs.Read.{ReadAnswers, says}
+use Rattle.codec.specs.Read.{ReadAnswers}
+use Rattle.codec.specs.Call.{says}
 use Rattle.codec.specs.declared.Reading.{Reading}
-use Rattle.decode.specs.Decode.{DecodeAnswers, refusing}
+use Rattle.decode.specs.Decode.{DecodeAnswers}
+use Rattle.decode.specs.Call.{refusing}
 use Rattle.decode.specs.declared.Decoding.{Decoding}
 use Rattle.export.specs.Inner.Narrow.{Narrows}
 
@@ -89,7 +91,8 @@ module _ {m t s m₁ t₁ s₁ : ℕ} (on-m : Narrows m m₁) (on-t : Narrows t 
     unfolding readRefusal
     read-alike = checks-alike (λ x y z. smallBuffer x (length bytes) ∷ [])
 
-    read-taken : {answer : Reading} → readRefusal m₁ t₁ s₁ (length bytes) ≡ 0 → ReadAnswers m₁ t₁ s₁ bytes answer → ReadAnswers m t s bytes answer
+    read-taken : {answer : Reading} → readRefusal m₁ t₁ s₁ (length bytes) ≡ 0 → ReadAnswers m₁ t₁ s₁ bytes answer
+        → ReadAnswers m t s bytes answer
     read-taken {answer} z a =
         let p = read-passed m₁ t₁ s₁ (length bytes) z in
         code-same (λ x y u. ReadAnswers x y u bytes answer) (p .known) (p .short) a
@@ -104,8 +107,10 @@ module _ {m t s m₁ t₁ s₁ : ℕ} (on-m : Narrows m m₁) (on-t : Narrows t 
     unfolding decodeRefusal
     decode-alike =
         checks-alike (λ x y z. highOrder order₁ ∷ wrongCount x z (length soft) ∷ smallBuffer x (length before) ∷ [])
-        ∙ by-size (λ x r. decodeRefusal m t s r (length soft) (length before) ≡ decodeRefusal m t s x (length soft) (length before)) on-order refl
-        (λ a b. ap (λ (x : ℕ). cond (unknownCode m t .0) 1 (cond (tooShort m t s .0) 2 x)) (at-3 order₁ _ (omega arith) ∙ sym (at-3 order _ (omega arith))))
+        ∙ by-size (λ x r. decodeRefusal m t s r (length soft) (length before) ≡ decodeRefusal m t s x (length soft) (length before))
+        on-order refl
+        (λ a b. ap (λ (x : ℕ). cond (unknownCode m t .0) 1 (cond (tooShort m t s .0) 2 x))
+        (at-3 order₁ _ (omega arith) ∙ sym (at-3 order _ (omega arith))))
 
     decode-taken : {answer : Decoding} {after : List ℕ} → decodeRefusal m₁ t₁ s₁ order₁ (length soft) (length before) ≡ 0
         → DecodeAnswers m₁ t₁ s₁ order₁ soft before answer after → DecodeAnswers m t s order soft before answer after

@@ -5,6 +5,7 @@ ghost use lib.ListN.{set};
 ghost use Rattle.codec.specs.Encode.{EncodeAnswers};
 ghost use Rattle.export.specs.Told.{told, DecodeTold, ReadTold};
 ghost use Rattle.export.specs.Inner.Narrow.{Narrows};
+use frame::TAKEN;
 
 // The largest number that the calls take.
 const LARGEST: u32 = 65535;
@@ -32,7 +33,7 @@ fn put(number: u32, place: usize, figures: &mut [u32])
 fn tell_figures(refusal: u8, distance: u16, flips: u8, candidates: u32, figures: &mut [u32])
     ensures { λ _. ⌜ now (figures .exit) ≡ told refusal (distance ∷ flips ∷ candidates ∷ []) (now (figures .entry)) ⌝ }
 {
-    if 0 < refusal {
+    if TAKEN < refusal {
         return;
     }
     put(distance as u32, 0, figures);
@@ -44,7 +45,7 @@ fn tell_figures(refusal: u8, distance: u16, flips: u8, candidates: u32, figures:
 fn tell_message(refusal: u8, number: u64, message: &mut [u64])
     ensures { λ _. ⌜ now (message .exit) ≡ told refusal (number ∷ []) (now (message .entry)) ⌝ }
 {
-    if 0 < refusal {
+    if TAKEN < refusal {
         return;
     }
     if 0 < message.len() {
@@ -81,7 +82,8 @@ pub extern "C" fn malligovu_decode(
     word: &mut [u8],
     figures: &mut [u32],
 ) -> u32
-    ensures { λ r. ⌜ DecodeTold m t s order (now (soft .entry)) (now (word .entry)) (now (figures .entry)) r (now (word .exit)) (now (figures .exit)) ⌝ }
+    ensures { λ r. ⌜ DecodeTold m t s order (now (soft .entry)) (now (word .entry)) (now (figures .entry)) r
+        (now (word .exit)) (now (figures .exit)) ⌝ }
 {
     let decoding = decode::decode(narrow(m), narrow(t), narrow(s), narrow(order), soft, word);
     tell_figures(

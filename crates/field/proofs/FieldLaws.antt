@@ -48,12 +48,15 @@ module _ (m : ℕ) where
 
     step-lt : (y : ℕ) → up y < 2 ^ m
     unfolding timesAlpha
-    step-lt y = xor-lt m (y * 2 % 2 ^ m) (bitTimes (y / 2 ^ (m - 1) % 2) (reduction m)) (mod-lt (y * 2) (pow-pos m)) (bit-times-lt m (y / 2 ^ (m - 1) % 2) (reduction m) (ltb→lt (reduction m) (2 ^ m) (t .fits)))
+    step-lt y =
+        xor-lt m (y * 2 % 2 ^ m) (bitTimes (y / 2 ^ (m - 1) % 2) (reduction m)) (mod-lt (y * 2) (pow-pos m))
+        (bit-times-lt m (y / 2 ^ (m - 1) % 2) (reduction m) (ltb→lt (reduction m) (2 ^ m) (t .fits)))
 
     shift-lt : (k x y : ℕ) → y < 2 ^ m → scan k x y < 2 ^ m
     unfolding shiftAdd
     shift-lt zero x y h = pow-pos m
-    shift-lt (suc k) x y h = xor-lt m (bitTimes (x % 2) y) (scan k (x / 2) (up y)) (bit-times-lt m (x % 2) y h) (shift-lt k (x / 2) (up y) (step-lt y))
+    shift-lt (suc k) x y h =
+        xor-lt m (bitTimes (x % 2) y) (scan k (x / 2) (up y)) (bit-times-lt m (x % 2) y h) (shift-lt k (x / 2) (up y) (step-lt y))
 
     mul-lt : (x y : ℕ) → mul x y < 2 ^ m
     unfolding times
@@ -97,7 +100,8 @@ module _ (m : ℕ) where
     unfolding alphaTo
     pow-add zero j = ap pow (zero-add j) ∙ sym (mul-comm 1 (pow j) ∙ mul-one (pow j) (pow-lt j))
     pow-add (suc i) j =
-        ap pow (suc-add i j) ∙ ap up (pow-add i j ∙ mul-comm (pow i) (pow j)) ∙ sym (mul-up (pow j) (pow i) (pow-lt i)) ∙ mul-comm (pow j) (up (pow i))
+        ap pow (suc-add i j) ∙ ap up (pow-add i j ∙ mul-comm (pow i) (pow j)) ∙ sym (mul-up (pow j) (pow i) (pow-lt i))
+        ∙ mul-comm (pow j) (up (pow i))
 
     inverted : (x : ℕ) → x < 2 ^ m → x ≢ 0 → mul x (inverseOf m x) ≡ 1
     inverted zero h ne = absurd (ne refl)
@@ -111,7 +115,9 @@ module _ (m : ℕ) where
 
     inverted-zero : inverseOf m 0 ≡ 0
     unfolding inverseOf
-    inverted-zero = last-none (2 ^ m) (λ y. eqb (mul 0 y) 1) (λ y _ e. let q : _≡_ {A = ℕ} 0 1 = sym (mul-comm 0 y ∙ mul-zero y) ∙ eqb→eq (mul 0 y) 1 e in omega arith)
+    inverted-zero =
+        last-none (2 ^ m) (λ y. eqb (mul 0 y) 1)
+        (λ y _ e. let q : _≡_ {A = ℕ} 0 1 = sym (mul-comm 0 y ∙ mul-zero y) ∙ eqb→eq (mul 0 y) 1 e in omega arith)
 
     inverted-lt : (x : ℕ) → inverseOf m x < 2 ^ m
     unfolding inverseOf

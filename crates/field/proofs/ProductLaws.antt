@@ -45,7 +45,8 @@ module _ (m : ℕ) where
       ap₂ _⊕_ (ap (λ (u : ℕ). u % 2 ^ m) (xor-double y z) ∙ xor-mod (y * 2) (z * 2) m)
       (ap (λ (u : ℕ). bitTimes u (reduction m)) (ap (λ (u : ℕ). u % 2) (xor-shr y z (m - 1)) ∙ xor-odd (y / 2 ^ (m - 1)) (z / 2 ^ (m - 1)))
       ∙ xor-bit-times (y / 2 ^ (m - 1) % 2) (z / 2 ^ (m - 1) % 2) (reduction m) (mod-lt _ (zero-lt-suc 1)) (mod-lt _ (zero-lt-suc 1)))
-      ∙ xor-swap (y * 2 % 2 ^ m) (z * 2 % 2 ^ m) (bitTimes (y / 2 ^ (m - 1) % 2) (reduction m)) (bitTimes (z / 2 ^ (m - 1) % 2) (reduction m))
+      ∙ xor-swap (y * 2 % 2 ^ m) (z * 2 % 2 ^ m) (bitTimes (y / 2 ^ (m - 1) % 2) (reduction m))
+      (bitTimes (z / 2 ^ (m - 1) % 2) (reduction m))
 
   pub shift-xor : (k x y z : ℕ) → scan k x (y ⊕ z) ≡ scan k x y ⊕ scan k x z
   unfolding shiftAdd
@@ -58,7 +59,8 @@ module _ (m : ℕ) where
   unfolding shiftAdd
   xor-shift zero x w y = sym (xor-zero 0)
   xor-shift (suc k) x w y =
-      ap₂ _⊕_ (ap (λ (u : ℕ). bitTimes u y) (xor-odd x w) ∙ xor-bit-times (x % 2) (w % 2) y (mod-lt x (zero-lt-suc 1)) (mod-lt w (zero-lt-suc 1)))
+      ap₂ _⊕_ (ap (λ (u : ℕ). bitTimes u y) (xor-odd x w)
+      ∙ xor-bit-times (x % 2) (w % 2) y (mod-lt x (zero-lt-suc 1)) (mod-lt w (zero-lt-suc 1)))
       (ap (λ (u : ℕ). scan k u (up y)) (xor-half x w) ∙ xor-shift k (x / 2) (w / 2) (up y))
       ∙ xor-swap (bitTimes (x % 2) y) (bitTimes (w % 2) y) (scan k (x / 2) (up y)) (scan k (w / 2) (up y))
 
@@ -73,7 +75,9 @@ module _ (m : ℕ) where
   pub shift-alpha : (k x y : ℕ) → scan k x (up y) ≡ up (scan k x y)
   unfolding shiftAdd
   shift-alpha zero x y = sym alpha-zero
-  shift-alpha (suc k) x y = ap₂ _⊕_ (sym (alpha-bit-times (x % 2) y)) (shift-alpha k (x / 2) (up y)) ∙ sym (alpha-xor (bitTimes (x % 2) y) (scan k (x / 2) (up y)))
+  shift-alpha (suc k) x y =
+      ap₂ _⊕_ (sym (alpha-bit-times (x % 2) y)) (shift-alpha k (x / 2) (up y))
+      ∙ sym (alpha-xor (bitTimes (x % 2) y) (scan k (x / 2) (up y)))
 
   pub shift-zero : (k x : ℕ) → scan k x 0 ≡ 0
   unfolding shiftAdd

@@ -23,7 +23,8 @@ unfolding timesAlpha bitTimes
 alpha-large (suc k) y h l g =
     ap₂ _⊕_ (ap (λ (u : ℕ). u % 2 ^ suc k) (omega arith) ∙ P.low 1 (suc k) {lo = y * 2 - 2 ^ suc k} (omega arith))
     (ap (λ (u : ℕ). bitTimes (u % 2) (reduction (suc k)))
-    (ap (λ (e : ℕ). y / 2 ^ e) (omega arith) ∙ ap (λ (u : ℕ). u / 2 ^ k) (omega (arith, pow-suc 2 k)) ∙ P.high 1 k {lo = y - 2 ^ k} (omega (arith, pow-suc 2 k))))
+    (ap (λ (e : ℕ). y / 2 ^ e) (omega arith) ∙ ap (λ (u : ℕ). u / 2 ^ k) (omega (arith, pow-suc 2 k))
+    ∙ P.high 1 k {lo = y - 2 ^ k} (omega (arith, pow-suc 2 k))))
 alpha-large zero y h l g = absurd (omega arith)
 
 -- x^m reduces to x^2 + 1 for m = 5, and to x + 1 for m = 4 and 6
@@ -44,16 +45,20 @@ shift-round : (m i a b : ℕ) → i < m → shiftAdd m (m - i) a b ≡ bitTimes 
 unfolding shiftAdd
 shift-round m i a b h = let e : m - i ≡ suc (m - (i + 1)) = omega arith in ap (λ (k : ℕ). shiftAdd m k a b) e
 
-pub round-even : (m i a b acc z : ℕ) → i < m → a % 2 ≢ 1 → acc ⊕ shiftAdd m (m - i) a b ≡ z → acc ⊕ shiftAdd m (m - (i + 1)) (a / 2) (timesAlpha m b) ≡ z
+pub round-even : (m i a b acc z : ℕ) → i < m → a % 2 ≢ 1 → acc ⊕ shiftAdd m (m - i) a b ≡ z
+    → acc ⊕ shiftAdd m (m - (i + 1)) (a / 2) (timesAlpha m b) ≡ z
 unfolding bitTimes
 round-even m i a b acc z h ne e =
     let d : a % 2 ≡ 0 = omega arith in
-    ap (λ (u : ℕ). acc ⊕ u) (sym (shift-round m i a b h ∙ ap (λ (u : ℕ). bitTimes u b ⊕ shiftAdd m (m - (i + 1)) (a / 2) (timesAlpha m b)) d ∙ zero-xor _)) ∙ e
+    ap (λ (u : ℕ). acc ⊕ u) (sym (shift-round m i a b h ∙ ap (λ (u : ℕ). bitTimes u b ⊕ shiftAdd m (m - (i + 1)) (a / 2) (timesAlpha m b)) d
+    ∙ zero-xor _)) ∙ e
 
-pub round-odd : (m i a b acc z : ℕ) → i < m → a % 2 ≡ 1 → acc ⊕ shiftAdd m (m - i) a b ≡ z → acc ⊕ b ⊕ shiftAdd m (m - (i + 1)) (a / 2) (timesAlpha m b) ≡ z
+pub round-odd : (m i a b acc z : ℕ) → i < m → a % 2 ≡ 1 → acc ⊕ shiftAdd m (m - i) a b ≡ z
+    → acc ⊕ b ⊕ shiftAdd m (m - (i + 1)) (a / 2) (timesAlpha m b) ≡ z
 unfolding bitTimes
 round-odd m i a b acc z h d e =
-    xor-assoc acc b _ ∙ ap (λ (u : ℕ). acc ⊕ u) (sym (shift-round m i a b h ∙ ap (λ (u : ℕ). bitTimes u b ⊕ shiftAdd m (m - (i + 1)) (a / 2) (timesAlpha m b)) d)) ∙ e
+    xor-assoc acc b _ ∙ ap (λ (u : ℕ). acc ⊕ u)
+    (sym (shift-round m i a b h ∙ ap (λ (u : ℕ). bitTimes u b ⊕ shiftAdd m (m - (i + 1)) (a / 2) (timesAlpha m b)) d)) ∙ e
 
 pub round-last : (m i a b acc z : ℕ) → m ≤ i → acc ⊕ shiftAdd m (m - i) a b ≡ z → acc ≡ z
 unfolding shiftAdd

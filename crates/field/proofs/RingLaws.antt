@@ -33,13 +33,30 @@ module _ (m : ℕ) (F : Laws m) where
   -- a factor that is not 0 cancels
   pub cancel : (x f : ℕ) → x < 2 ^ m → f < 2 ^ m → f ≢ 0 → times m f x ≡ 0 → x ≡ 0
   cancel x f hx hf nf e =
-      sym (one x hx) ∙ ap (times m x) (sym (inverse f hf nf)) ∙ sym (assoc x f (inverseOf m f)) ∙ ap (λ (u : ℕ). times m u (inverseOf m f)) (comm x f ∙ e) ∙ zero-times (inverseOf m f)
+      sym (one x hx) ∙ ap (times m x) (sym (inverse f hf nf)) ∙ sym (assoc x f (inverseOf m f))
+      ∙ ap (λ (u : ℕ). times m u (inverseOf m f)) (comm x f ∙ e) ∙ zero-times (inverseOf m f)
 
   -- what has the product 1 with x is its inverse
   pub inverse-only : (x y : ℕ) → x < 2 ^ m → y < 2 ^ m → x ≢ 0 → times m x y ≡ 1 → y ≡ inverseOf m x
   inverse-only x y hx hy nx e =
-      sym (one y hy) ∙ ap (times m y) (sym (inverse x hx nx)) ∙ sym (assoc y x (inverseOf m x)) ∙ ap (λ (u : ℕ). times m u (inverseOf m x)) (comm y x ∙ e)
+      sym (one y hy) ∙ ap (times m y) (sym (inverse x hx nx)) ∙ sym (assoc y x (inverseOf m x))
+      ∙ ap (λ (u : ℕ). times m u (inverseOf m x)) (comm y x ∙ e)
       ∙ comm 1 (inverseOf m x) ∙ one (inverseOf m x) (inverse-lt x)
 
 -- `simp (ring, F)` proves an equation that holds in every ring of characteristic 2
-pub ruleset ring = (mul-comm, mul-assoc, mul-xor, left-comm, xor-over, times-zero, zero-times, xor-assoc, xor-comm, xor-left-comm, xor-self, xor-self-left, xor-zero, zero-xor)
+pub ruleset ring = (
+  mul-comm,
+  mul-assoc,
+  mul-xor,
+  left-comm,
+  xor-over,
+  times-zero,
+  zero-times,
+  xor-assoc,
+  xor-comm,
+  xor-left-comm,
+  xor-self,
+  xor-self-left,
+  xor-zero,
+  zero-xor,
+)

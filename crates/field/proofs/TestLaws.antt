@@ -85,8 +85,11 @@ ne→not a b n = go (eqb a b) (λ t. n (eqb→eq a b t))
 -- smaller, or equal and then smaller by a second number
 pub lex-says : (d e w v : ℕ) → T (ltb d e || (eqb d e && ltb w v)) ↔ ((d < e) ⊎ ((d ≡ e) × (w < v)))
 lex-says d e w v = (
-  λ t. ⊎-elim (λ a. inl (ltb→lt d e a)) (λ a. inr (eqb→eq d e (and-left (eqb d e) (ltb w v) a), ltb→lt w v (and-right (eqb d e) (ltb w v) a))) (or-cases (ltb d e) (eqb d e && ltb w v) t),
-  ⊎-elim (λ l. or-left (ltb d e) (eqb d e && ltb w v) (lt→ltb d e l)) (λ h. or-right (ltb d e) (eqb d e && ltb w v) (and-both (eqb d e) (ltb w v) (eq→eqb d e (h .0)) (lt→ltb w v (h .1)))),
+  λ t. ⊎-elim (λ a. inl (ltb→lt d e a))
+      (λ a. inr (eqb→eq d e (and-left (eqb d e) (ltb w v) a), ltb→lt w v (and-right (eqb d e) (ltb w v) a)))
+      (or-cases (ltb d e) (eqb d e && ltb w v) t),
+  ⊎-elim (λ l. or-left (ltb d e) (eqb d e && ltb w v) (lt→ltb d e l))
+      (λ h. or-right (ltb d e) (eqb d e && ltb w v) (and-both (eqb d e) (ltb w v) (eq→eqb d e (h .0)) (lt→ltb w v (h .1)))),
 )
 
 pub all-of : (n : ℕ) (f : ℕ → Bool) → ((k : ℕ) → k < n → T (f k)) → T (all n f)
@@ -103,7 +106,8 @@ unfolding lastOf
 last-passes zero t p l h = absurd (omega arith)
 last-passes (suc n) t p l h = go (t n) refl (eq-or-lt-of-le (le-of-suc-le-suc l)) (λ k. last-passes n t p k h)
   where
-    go : (b : Bool) → t n ≡ b → (p ≡ n) ⊎ (p < n) → (p < n → (lastOf n t < n) × T (t (lastOf n t))) → (cond b n (lastOf n t) < suc n) × T (t (cond b n (lastOf n t)))
+    go : (b : Bool) → t n ≡ b → (p ≡ n) ⊎ (p < n) → (p < n → (lastOf n t < n) × T (t (lastOf n t)))
+        → (cond b n (lastOf n t) < suc n) × T (t (cond b n (lastOf n t)))
     go true e c f = (omega arith, subst T (sym e) tt)
     go false e (inl q) f = absurd (subst T (ap t q ∙ e) h)
     go false e (inr k) f = let u = f k in (omega (arith, u .0), u .1)
@@ -112,7 +116,8 @@ last-passes (suc n) t p l h = go (t n) refl (eq-or-lt-of-le (le-of-suc-le-suc l)
 pub last-none : (n : ℕ) (t : ℕ → Bool) → ((p : ℕ) → p < n → T (t p) → ⊥) → lastOf n t ≡ 0
 unfolding lastOf
 last-none zero t h = refl
-last-none (suc n) t h = ap (λ (b : Bool). cond b n (lastOf n t)) (is-false (t n) (h n (omega arith))) ∙ last-none n t (λ p l. h p (omega arith))
+last-none (suc n) t h =
+    ap (λ (b : Bool). cond b n (lastOf n t)) (is-false (t n) (h n (omega arith))) ∙ last-none n t (λ p l. h p (omega arith))
 
 last-le : (n : ℕ) (t : ℕ → Bool) → lastOf (suc n) t ≤ n
 unfolding lastOf

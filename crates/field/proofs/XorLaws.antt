@@ -39,7 +39,8 @@ pub xor-assoc : (x y z : ℕ) → x ⊕ y ⊕ z ≡ x ⊕ (y ⊕ z)
 xor-assoc =
     bin-ind (λ (x : ℕ). (y z : ℕ) → x ⊕ y ⊕ z ≡ x ⊕ (y ⊕ z)) (λ y z. ap (λ (u : ℕ). u ⊕ z) (zero-xor y) ∙ sym (zero-xor (y ⊕ z)))
     (λ x ih y z. sym (div-add-mod' (x ⊕ y ⊕ z) 2)
-    ∙ simp (xor-half, xor-odd) (ap₂ (λ (p q : ℕ). p * 2 + q) (ih (y / 2) (z / 2)) (digit _ _ _ (mod-lt x (zero-lt-suc 1)) (mod-lt y (zero-lt-suc 1)) (mod-lt z (zero-lt-suc 1))))
+    ∙ simp (xor-half, xor-odd) (ap₂ (λ (p q : ℕ). p * 2 + q) (ih (y / 2) (z / 2))
+    (digit _ _ _ (mod-lt x (zero-lt-suc 1)) (mod-lt y (zero-lt-suc 1)) (mod-lt z (zero-lt-suc 1))))
     ∙ div-add-mod' (x ⊕ (y ⊕ z)) 2)
 
 pub xor-left-comm : (x y z : ℕ) → x ⊕ (y ⊕ z) ≡ y ⊕ (x ⊕ z)
@@ -75,7 +76,8 @@ xor-shr = B.xor-shr
 pub xor-double : (x y : ℕ) → (x ⊕ y) * 2 ≡ x * 2 ⊕ y * 2
 unfolding _⊕_
 xor-double x y =
-    sym (add-zero ((x ⊕ y) * 2)) ∙ sym (B.xor-block 1 x y 0 0 (zero-lt-suc 1) (zero-lt-suc 1)) ∙ ap₂ _⊕_ (add-zero (x * 2)) (add-zero (y * 2))
+    sym (add-zero ((x ⊕ y) * 2)) ∙ sym (B.xor-block 1 x y 0 0 (zero-lt-suc 1) (zero-lt-suc 1))
+    ∙ ap₂ _⊕_ (add-zero (x * 2)) (add-zero (y * 2))
 
 pub xor-self-left : (x y : ℕ) → x ⊕ (x ⊕ y) ≡ y
 xor-self-left x y = sym (xor-assoc x x y) ∙ ap (λ (u : ℕ). u ⊕ y) (xor-self x) ∙ zero-xor y

@@ -41,7 +41,8 @@ xorsum-one (suc n) f u l h =
 pub xorsum-xorsum : (n k : ℕ) (f : ℕ → ℕ → ℕ) → xorSum n (λ p. xorSum k (f p)) ≡ xorSum k (λ j. xorSum n (λ p. f p j))
 unfolding xorSum
 xorsum-xorsum n zero f = xorsum-zero n (λ p. 0) (λ p l. refl)
-xorsum-xorsum n (suc k) f = xorsum-xor n (λ p. xorSum k (f p)) (λ p. f p k) ∙ ap (λ (u : ℕ). u ⊕ xorSum n (λ p. f p k)) (xorsum-xorsum n k f)
+xorsum-xorsum n (suc k) f =
+    xorsum-xor n (λ p. xorSum k (f p)) (λ p. f p k) ∙ ap (λ (u : ℕ). u ⊕ xorSum n (λ p. f p k)) (xorsum-xorsum n k f)
 
 -- the same terms but for the first and the last
 pub xorsum-shift : (n : ℕ) (f : ℕ → ℕ) → xorSum n (λ p. f (suc p)) ⊕ f 0 ≡ xorSum n f ⊕ f n
@@ -62,4 +63,5 @@ xorsum-head n f = xorsum-suc n f ∙ sym (xorsum-shift n f) ∙ xor-comm (xorSum
 pub xorsum-short : (d k : ℕ) (f : ℕ → ℕ) → ((p : ℕ) → d ≤ p → f p ≡ 0) → xorSum (d + k) f ≡ xorSum d f
 xorsum-short d zero f h = ap (λ (x : ℕ). xorSum x f) (omega arith)
 xorsum-short d (suc k) f h =
-    ap (λ (x : ℕ). xorSum x f) (add-suc d k) ∙ xorsum-suc (d + k) f ∙ ap₂ _⊕_ (xorsum-short d k f h) (h (d + k) (omega arith)) ∙ xor-zero (xorSum d f)
+    ap (λ (x : ℕ). xorSum x f) (add-suc d k) ∙ xorsum-suc (d + k) f ∙ ap₂ _⊕_ (xorsum-short d k f h) (h (d + k) (omega arith))
+    ∙ xor-zero (xorSum d f)

@@ -3,24 +3,8 @@ use mathlib.Core.Path.{_≡_, refl}
 use mathlib.Core.List.{[], _∷_, map}
 use Rattle.field.specs.Field.{lengthOf}
 use Rattle.codes.specs.Code.{entryOf, dimensionOf}
-use Rattle.frame.specs.Shape.{bytesOf}
-use Rattle.frame.specs.Packing.{packed, unpacked, written, wordIn}
+use Rattle.words.specs.Packing.{bytesOf}
 use Rattle.frame.specs.Refusal.{encodeRefusal, readRefusal, decodeRefusal}
-
--- "2, 4 or 8 for m = 4, 5, 6"
-bytes : map bytesOf (4 ∷ 5 ∷ 6 ∷ []) ≡ 2 ∷ 4 ∷ 8 ∷ []
-unfolding bytesOf
-bytes = refl
-
--- "m=6: t=3, cf 82 07 and five zero bytes", and a byte of the buffer past them
-bytes-written : written 6 0x782cf (1 ∷ 2 ∷ 3 ∷ 4 ∷ 5 ∷ 6 ∷ 7 ∷ 8 ∷ 9 ∷ []) ≡ 0xcf ∷ 0x82 ∷ 0x07 ∷ 0 ∷ 0 ∷ 0 ∷ 0 ∷ 0 ∷ 9 ∷ []
-unfolding written packed bytesOf
-bytes-written = refl
-
--- "m=5: t=2, 69 07 00 00", and a byte past them
-bytes-read : wordIn 5 (0x69 ∷ 0x07 ∷ 0 ∷ 0 ∷ 9 ∷ []) ≡ 0x769
-unfolding unpacked bytesOf
-bytes-read = refl
 
 -- "Message 2047 with m=4, t=1 gives ff 7f; 2048 is refused with 7; with s=1, 1024 is refused with 7 and 1023 is not."
 messages :

@@ -1,8 +1,8 @@
 -- A list of checks in two parts: the second part counts where the first gives 0.
---   numbered checks              no check of the list has the number 0
---   first-given, code-given      the first part's number, where it is not 0, is the whole list's
---   first-passed, code-clear     the second part's, where the first gives 0
---   first-both                   either, as the code's `first` picks it
+--   numbered checks                          no check of the list has the number 0
+--   first-given, code-given, header-given    the first part's number, where it is not 0, is the whole list's
+--   first-passed, code-clear, header-clear   the second part's, where the first gives 0
+--   first-both                               either, as the code's `first` picks it
 -- Assumes nothing.
 use mathlib.Core.Path.{_≡_, refl, sym, _∙_}
 use mathlib.Core.Bool.{Bool, true, false, cond, _&&_}
@@ -12,7 +12,7 @@ use native.Mathlib.Omega.{arith}
 use borrow.Author.Tests.{ne-eqb}
 use lib.Dec.{T, ltb, ltb→lt, eqb}
 use Rattle.field.proofs.TestLaws.{and-left, and-right}
-use Rattle.frame.specs.Refusal.{Check, unknownCode, tooShort, firstMet, codeRefusal}
+use Rattle.frame.specs.Refusal.{Check, unknownCode, tooShort, highOrder, firstMet, codeRefusal, headerRefusal}
 
 abbrev pub numbered : List Check → Bool
 numbered [] = true
@@ -49,3 +49,15 @@ module _ (m t s : ℕ) (later : List Check) where
   pub code-clear : {r : ℕ} → codeRefusal m t s ≡ 0 → r ≡ firstMet later → r ≡ firstMet (unknownCode m t ∷ tooShort m t s ∷ later)
   unfolding codeRefusal
   code-clear p e = first-passed later (unknownCode m t ∷ tooShort m t s ∷ []) tt p e
+
+-- and whatever follows the three that a header decides
+module _ (m t s order : ℕ) (later : List Check) where
+  pub header-given : {a : ℕ} → a ≡ headerRefusal m t s order → 0 < a
+      → a ≡ firstMet (unknownCode m t ∷ tooShort m t s ∷ highOrder order ∷ later)
+  unfolding headerRefusal
+  header-given p l = first-given later (unknownCode m t ∷ tooShort m t s ∷ highOrder order ∷ []) tt p l
+
+  pub header-clear : {r : ℕ} → headerRefusal m t s order ≡ 0 → r ≡ firstMet later
+      → r ≡ firstMet (unknownCode m t ∷ tooShort m t s ∷ highOrder order ∷ later)
+  unfolding headerRefusal
+  header-clear p e = first-passed later (unknownCode m t ∷ tooShort m t s ∷ highOrder order ∷ []) tt p e

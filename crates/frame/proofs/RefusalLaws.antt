@@ -10,9 +10,9 @@ use lib.Dec.{T, leb, leb→le, eqb, eqb→eq, nleb→lt, nltb→le}
 use Rattle.field.specs.Field.{lengthOf}
 use Rattle.field.proofs.TestLaws.{and-left, and-right}
 use Rattle.codes.specs.Code.{Known, dimensionOf}
-use Rattle.frame.specs.Shape.{bytesOf}
+use Rattle.words.specs.Packing.{bytesOf}
 use Rattle.frame.specs.Refusal.{unknownCode, tooShort, highOrder, wrongCount, smallBuffer, largeMessage}
-use Rattle.frame.specs.Refusal.{codeRefusal, encodeRefusal, readRefusal, decodeRefusal}
+use Rattle.frame.specs.Refusal.{codeRefusal, headerRefusal, encodeRefusal, readRefusal, decodeRefusal}
 
 -- a check that is not met leaves it to the next
 pub not-met : (b : Bool) (N x : ℕ) → cond b (suc N) x ≡ 0 → T (not b) × (x ≡ 0)
@@ -67,6 +67,10 @@ module _ (m t s : ℕ) where
   pub code-passed : codeRefusal m t s ≡ 0 → Known m t × (s < dimensionOf m t)
   unfolding codeRefusal
   code-passed e = (known-by m t _ e, short-by 0 (not-met (unknownCode m t .0) 0 _ e .1))
+
+  pub header-passed : (order : ℕ) → headerRefusal m t s order ≡ 0 → Known m t × (s < dimensionOf m t)
+  unfolding headerRefusal
+  header-passed order e = (known-by m t _ e, short-by _ (not-met (unknownCode m t .0) 0 _ e .1))
 
   pub encode-known : (message room : ℕ) → encodeRefusal m t s message room ≡ 0 → Known m t
   unfolding encodeRefusal

@@ -8,9 +8,8 @@ use lib.Dec.{T, T-not, leb, leb→le, le→leb, ltb→lt, lt→ltb}
 use Rattle.field.specs.Field.{lengthOf}
 use Rattle.field.proofs.TestLaws.{and-both, ne→not, not-eqb, decT}
 use Rattle.codes.specs.Code.{Known, dimensionOf}
-use Rattle.frame.specs.Shape.{bytesOf}
-use Rattle.frame.specs.Refusal.{unknownCode, tooShort, highOrder, wrongCount, smallBuffer, largeMessage}
-use Rattle.frame.specs.Refusal.{encodeRefusal, readRefusal}
+use Rattle.words.specs.Packing.{bytesOf}
+use Rattle.frame.specs.Refusal.{unknownCode, tooShort, highOrder, wrongCount, smallBuffer, largeMessage, encodeRefusal, readRefusal}
 use Rattle.frame.proofs.RefusalLaws.{known-by}
 
 -- a check that is met gives its number, one that is not leaves it to the next
@@ -71,7 +70,8 @@ pub past-5 : (m room x : ℕ) → bytesOf m ≤ room → cond (smallBuffer m roo
 past-5 m room x h = unmet (smallBuffer m room .0) 5 x (λ u. omega (arith, ltb→lt room (bytesOf m) u))
 
 module _ (m t s message room : ℕ) where
-  pub encode-passes : Known m t → s < dimensionOf m t → message < 2 ^ (dimensionOf m t - s) → bytesOf m ≤ room → encodeRefusal m t s message room ≡ 0
+  pub encode-passes : Known m t → s < dimensionOf m t → message < 2 ^ (dimensionOf m t - s) → bytesOf m ≤ room
+      → encodeRefusal m t s message room ≡ 0
   unfolding encodeRefusal
   encode-passes k hs hm h = past-1 m t _ k ∙ past-2 m t s _ hs ∙ past-7 m t s message _ hm ∙ past-5 m room 0 h
 

@@ -3,7 +3,8 @@
 -- 4 the count, 5 the buffer, 7 the message; 6, no candidate, and 8, a word not to be read, speak of words and are not here.
 --   Check            a row of the table: whether it is met, and its number; the rows are unknownCode to largeMessage
 --   firstMet         the number of the first of a list that is met, 0 where none is
---   codeRefusal      of the rows with which every call begins; encodeRefusal, readRefusal, decodeRefusal: of each call's
+--   codeRefusal      of the rows with which every call begins; headerRefusal: of those that a header decides; encodeRefusal,
+--                    readRefusal, decodeRefusal: of each call's
 -- Assumes nothing.
 use mathlib.Core.Bool.{Bool, not, cond, _&&_}
 use mathlib.Core.List.{List, [], _∷_}
@@ -11,7 +12,7 @@ use Prim.Native.Nat.{ℕ, _-_, _^_}
 use lib.Dec.{leb, ltb, eqb}
 use Rattle.field.specs.Field.{lengthOf}
 use Rattle.codes.specs.Code.{dimensionOf}
-use Rattle.frame.specs.Shape.{bytesOf}
+use Rattle.words.specs.Packing.{bytesOf}
 
 abbrev pub Check : Type 0
 Check = Bool × ℕ
@@ -47,6 +48,10 @@ firstMet (c ∷ cs) = cond (c .0) (c .1) (firstMet cs)
 
 unfoldable pub codeRefusal : ℕ → ℕ → ℕ → ℕ
 codeRefusal m t s = firstMet (unknownCode m t ∷ tooShort m t s ∷ [])
+
+-- "refusals 1 to 3": of the rows that a header of the program decides
+unfoldable pub headerRefusal : ℕ → ℕ → ℕ → ℕ → ℕ
+headerRefusal m t s order = firstMet (unknownCode m t ∷ tooShort m t s ∷ highOrder order ∷ [])
 
 -- "in this order: encode 1, 2, 7, 5; decode 1, 2, 3, 4, 5, 6; read 1, 2, 5, 8"
 unfoldable pub encodeRefusal : ℕ → ℕ → ℕ → ℕ → ℕ → ℕ

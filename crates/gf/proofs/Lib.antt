@@ -1,2 +1,1 @@
 pub mod TableLaws
-pub mod ExponentTableLaws

@@ -38,5 +38,6 @@ inverts-only m (suc x) y F h t =
 pub table-inverse : (k : ℕ) (t : List ℕ) → T (tableInverts k t) → (m x : ℕ) → m ≡ k → 4 ≤ m → m ≤ 6 → x < 2 ^ m → getD t x 0 ≡ inverseOf m x
 table-inverse k t passes m x e l h lt =
     let in-table : x < 2 ^ k = in-field k m x e lt in
-    inverts-only k x (getD t x 0) (laws k (omega arith) (omega arith)) in-table (below (2 ^ k) (λ x. inverts k x (getD t x 0)) passes x in-table)
+    inverts-only k x (getD t x 0) (laws k (omega arith) (omega arith)) in-table
+    (below (2 ^ k) (λ x. inverts k x (getD t x 0)) passes x in-table)
     ∙ ap (λ (u : ℕ). inverseOf u x) (sym e)

@@ -4,47 +4,66 @@ use mathlib.Core.Bool.{true, false}
 use mathlib.Core.List.{[], _∷_, map}
 use lib.IntN.{pos, negsuc}
 use Rattle.codes.specs.Code.{entryOf, dimensionOf}
-use Rattle.lines.specs.Line.{parts, isNumber, numberOf}
-use Rattle.lines.specs.Header.{wrongHeader, headerWith, headerOf}
-use Rattle.lines.specs.WordLine.{isValue, valueOf, valuesOf}
-use Rattle.lines.specs.Output.{decimalIn, decimal, hexOf, refusedLine, okLine}
-use Rattle.lines.specs.Answer.{headerRefusal}
+use Rattle.frame.specs.Refusal.{headerRefusal}
+use Rattle.input_lines.specs.Line.{items, isNumber, numberOf}
+use Rattle.input_lines.specs.Header.{wrongHeader, headerWith, headerOf}
+use Rattle.input_lines.specs.WordLine.{isValue, valueOf, valuesOf}
+use Rattle.output_lines.specs.Text.{bytesIn}
+use Rattle.output_lines.specs.Output.{decimalIn, decimal, hexOf, refusedLine, okLine}
+use Rattle.lines.specs.Answer.{refusalOf}
+use Rattle.lines.specs.Program.{linesOf}
 
--- `4 1 0 1`, the example's header, `4 1 0`, "meaning order 1", and `04 001 0 3`
-headers : map headerOf ((52 ∷ 32 ∷ 49 ∷ 32 ∷ 48 ∷ 32 ∷ 49 ∷ []) ∷ (52 ∷ 32 ∷ 49 ∷ 32 ∷ 48 ∷ []) ∷ (48 ∷ 52 ∷ 32 ∷ 48 ∷ 48 ∷ 49 ∷ 32 ∷ 48 ∷ 32 ∷ 51 ∷ []) ∷ [])
+-- the example's header, one "meaning order 1", and one with zeros before its numbers
+headers : map headerOf (bytesIn "4 1 0 1" ∷ bytesIn "4 1 0" ∷ bytesIn "04 001 0 3" ∷ [])
     ≡ headerWith 4 1 0 1 ∷ headerWith 4 1 0 1 ∷ headerWith 4 1 0 3 ∷ []
-unfolding headerOf parts isNumber numberOf
+unfolding headerOf items isNumber numberOf
 headers = refl
 
--- `4 1`, `4 1 0 1 1`, `4  1 0`, `4 1 0 `, `4 1 -0` and a blank line
-wrong-headers : map headerOf ((52 ∷ 32 ∷ 49 ∷ []) ∷ (52 ∷ 32 ∷ 49 ∷ 32 ∷ 48 ∷ 32 ∷ 49 ∷ 32 ∷ 49 ∷ []) ∷ (52 ∷ 32 ∷ 32 ∷ 49 ∷ 32 ∷ 48 ∷ []) ∷ (52 ∷ 32 ∷ 49 ∷ 32 ∷ 48 ∷ 32 ∷ []) ∷ (52 ∷ 32 ∷ 49 ∷ 32 ∷ 45 ∷ 48 ∷ []) ∷ [] ∷ [])
+-- too few numbers, too many, two spaces, a space at the end, a minus, and a blank line
+wrong-headers : map headerOf (bytesIn "4 1" ∷ bytesIn "4 1 0 1 1" ∷ bytesIn "4  1 0" ∷ bytesIn "4 1 0 " ∷ bytesIn "4 1 -0" ∷ [] ∷ [])
     ≡ wrongHeader ∷ wrongHeader ∷ wrongHeader ∷ wrongHeader ∷ wrongHeader ∷ wrongHeader ∷ []
-unfolding headerOf parts isNumber numberOf
+unfolding headerOf items isNumber numberOf
 wrong-headers = refl
 
 -- `260 1 0 1` is refused with 1, `4 1 11 4` with 2, `4 1 10 4` with 3, and `4 1 10 3` is not refused
-header-refusals : map headerRefusal (headerWith 260 1 0 1 ∷ headerWith 4 1 11 4 ∷ headerWith 4 1 10 4 ∷ headerWith 4 1 10 3 ∷ []) ≡ 1 ∷ 2 ∷ 3 ∷ 0 ∷ []
+header-refusals : map refusalOf (headerWith 260 1 0 1 ∷ headerWith 4 1 11 4 ∷ headerWith 4 1 10 4 ∷ headerWith 4 1 10 3 ∷ [])
+    ≡ 1 ∷ 2 ∷ 3 ∷ 0 ∷ []
 unfolding headerRefusal dimensionOf entryOf
 header-refusals = refl
 
--- `-128 127 -0 007`, and what is "outside -128 to 127"
-values-read : valuesOf (45 ∷ 49 ∷ 50 ∷ 56 ∷ 32 ∷ 49 ∷ 50 ∷ 55 ∷ 32 ∷ 45 ∷ 48 ∷ 32 ∷ 48 ∷ 48 ∷ 55 ∷ []) ≡ record { good = true; values = negsuc 127 ∷ pos 127 ∷ pos 0 ∷ pos 7 ∷ [] }
-unfolding valuesOf parts isValue valueOf isNumber numberOf
+-- values, and what is "outside -128 to 127" or no number
+values-read : valuesOf (bytesIn "-128 127 -0 007") ≡ record { good = true; values = negsuc 127 ∷ pos 127 ∷ pos 0 ∷ pos 7 ∷ [] }
+unfolding valuesOf items isValue valueOf isNumber numberOf
 values-read = refl
 
-outside : map isValue ((45 ∷ 49 ∷ 50 ∷ 57 ∷ []) ∷ (49 ∷ 50 ∷ 56 ∷ []) ∷ (45 ∷ 45 ∷ 49 ∷ []) ∷ (48 ∷ 48 ∷ 48 ∷ 49 ∷ []) ∷ []) ≡ false ∷ false ∷ false ∷ false ∷ []
+outside : map isValue (bytesIn "-129" ∷ bytesIn "128" ∷ bytesIn "--1" ∷ bytesIn "0001" ∷ []) ≡ false ∷ false ∷ false ∷ false ∷ []
 unfolding isValue isNumber numberOf
 outside = refl
 
--- `ok 0460 10 2 1` of P9, `ok 0000 128 1 4` of P12 and `refused 4`
-p9-line : okLine (4 ∷ 96 ∷ []) 10 2 1 ≡ 111 ∷ 107 ∷ 32 ∷ 48 ∷ 52 ∷ 54 ∷ 48 ∷ 32 ∷ 49 ∷ 48 ∷ 32 ∷ 50 ∷ 32 ∷ 49 ∷ 10 ∷ []
+-- the lines of P9 and P12, and a refusal
+p9-line : okLine (4 ∷ 96 ∷ []) 10 2 1 ≡ bytesIn "ok 0460 10 2 1\n"
 unfolding okLine hexOf decimal decimalIn
 p9-line = refl
 
-p12-line : okLine (0 ∷ 0 ∷ []) 128 1 4 ≡ 111 ∷ 107 ∷ 32 ∷ 48 ∷ 48 ∷ 48 ∷ 48 ∷ 32 ∷ 49 ∷ 50 ∷ 56 ∷ 32 ∷ 49 ∷ 32 ∷ 52 ∷ 10 ∷ []
+p12-line : okLine (0 ∷ 0 ∷ []) 128 1 4 ≡ bytesIn "ok 0000 128 1 4\n"
 unfolding okLine hexOf decimal decimalIn
 p12-line = refl
 
-refused-4 : refusedLine 4 ≡ 114 ∷ 101 ∷ 102 ∷ 117 ∷ 115 ∷ 101 ∷ 100 ∷ 32 ∷ 52 ∷ 10 ∷ []
+refused-4 : refusedLine 4 ≡ bytesIn "refused 4\n"
 unfolding refusedLine decimal decimalIn
 refused-4 = refl
+
+-- an empty input has no line
+anchor-empty : linesOf [] ≡ []
+unfolding linesOf
+anchor-empty = refl
+
+-- a lone newline ends a blank line, and nothing after a final newline is no line
+anchor-blank : linesOf (bytesIn "\n") ≡ [] ∷ []
+unfolding linesOf
+anchor-blank = refl
+
+-- a blank line among others, and a last newline that is missing
+anchor-lines : linesOf (bytesIn "12\n\n3") ≡ bytesIn "12" ∷ [] ∷ bytesIn "3" ∷ []
+unfolding linesOf
+anchor-lines = refl

@@ -7,7 +7,7 @@
 --   missing-header                            the first line of an empty input
 -- Assumes nothing.
 use mathlib.Core.Path.{_≡_, refl, sym, ap, _∙_}
-use mathlib.Core.Bool.{Bool, true, false, cond}
+use mathlib.Core.Bool.{Bool, true, false, cond, _&&_}
 use mathlib.Core.List.{List, []}
 use Prim.Native.Nat.{ℕ, _<_}
 use native.Mathlib.Omega.{arith}
@@ -16,35 +16,54 @@ use lib.Dec.{eqb}
 use lib.IntN.{ℤ}
 use lib.ListN.{length, take, replicate}
 use Rattle.codes.specs.Code.{Known}
-use Rattle.frame.specs.Shape.{bytesOf}
+use Rattle.words.specs.Packing.{bytesOf}
 use Rattle.frame.proofs.RefusalLaws.{decode-passed}
 use Rattle.decode.specs.Decode.{DecodeAnswers, refused, nothing, decoded}
 use Rattle.decode.specs.declared.Decoding.{Decoding}
 use Rattle.decode.proofs.CalledLaws.{answers-as-result}
-use Rattle.lines.specs.Line.{parts, isNumber}
-use Rattle.lines.specs.Header.{headerOf}
-use Rattle.lines.specs.WordLine.{valuesOf}
-use Rattle.lines.specs.Output.{headerLine, lineLine, refusedLine, okLine}
-use Rattle.lines.specs.Answer.{headerRefusal, headerSays, headerAnswer, callOf, resultLine, wordAnswer}
-use Rattle.lines.specs.declared.header.Header.{Header}
-use Rattle.lines.proofs.HeaderSteps.{too-long}
+use Rattle.input_lines.specs.Line.{items, isNumber}
+use Rattle.input_lines.specs.Header.{headerOf}
+use Rattle.input_lines.specs.WordLine.{valuesOf}
+use Rattle.output_lines.specs.Output.{headerLine, lineLine, refusedLine, okLine}
+use Rattle.lines.specs.Answer.{refusalOf, headerSays, headerAnswer, headerGoesOn, callOf, resultLine, wordAnswer}
+use Rattle.input_lines.specs.declared.header.Header.{Header}
+use Rattle.input_lines.proofs.HeaderSteps.{too-long}
 
 module _ (h : Header) where
   pub says-header : h .good ≡ false → headerSays h ≡ headerLine
   unfolding headerSays
   says-header e = rw e
 
-  pub says-nothing : h .good ≡ true → headerRefusal h ≡ 0 → headerSays h ≡ []
+  pub says-nothing : h .good ≡ true → refusalOf h ≡ 0 → headerSays h ≡ []
   unfolding headerSays
   says-nothing e z =
-      ap (λ (b : Bool). cond b (cond (eqb (headerRefusal h) 0) [] (refusedLine (headerRefusal h))) headerLine) e
-      ∙ ap (λ (b : Bool). cond b [] (refusedLine (headerRefusal h))) (eq-eqb (headerRefusal h) 0 z)
+      ap (λ (b : Bool). cond b (cond (eqb (refusalOf h) 0) [] (refusedLine (refusalOf h))) headerLine) e
+      ∙ ap (λ (b : Bool). cond b [] (refusedLine (refusalOf h))) (eq-eqb (refusalOf h) 0 z)
 
-  pub says-refused : h .good ≡ true → (headerRefusal h ≡ 0 → ⊥) → headerSays h ≡ refusedLine (headerRefusal h)
+  pub says-refused : h .good ≡ true → (refusalOf h ≡ 0 → ⊥) → headerSays h ≡ refusedLine (refusalOf h)
   unfolding headerSays
   says-refused e n =
-      ap (λ (b : Bool). cond b (cond (eqb (headerRefusal h) 0) [] (refusedLine (headerRefusal h))) headerLine) e
-      ∙ ap (λ (b : Bool). cond b [] (refusedLine (headerRefusal h))) (ne-eqb (headerRefusal h) 0 n)
+      ap (λ (b : Bool). cond b (cond (eqb (refusalOf h) 0) [] (refusedLine (refusalOf h))) headerLine) e
+      ∙ ap (λ (b : Bool). cond b [] (refusedLine (refusalOf h))) (ne-eqb (refusalOf h) 0 n)
+
+  -- words follow exactly where nothing is said
+  pub nothing-goes-on : length (headerSays h) ≡ 0 → headerGoesOn h ≡ true
+  unfolding headerSays headerGoesOn refusedLine headerLine
+  nothing-goes-on e = go (h .good) (eqb (refusalOf h) 0) e
+    where
+      go : (good zero : Bool) → length (cond good (cond zero [] (refusedLine (refusalOf h))) headerLine) ≡ 0 → (good && zero) ≡ true
+      go true true e = refl
+      go true false e = absurd (omega (arith, e))
+      go false zero e = absurd (omega (arith, e))
+
+  pub something-ends : (length (headerSays h) ≡ 0 → ⊥) → headerGoesOn h ≡ false
+  unfolding headerSays headerGoesOn
+  something-ends n = go (h .good) (eqb (refusalOf h) 0) n
+    where
+      go : (good zero : Bool) → (length (cond good (cond zero [] (refusedLine (refusalOf h))) headerLine) ≡ 0 → ⊥) → (good && zero) ≡ false
+      go true true n = absurd (n refl)
+      go true false n = refl
+      go false zero n = refl
 
 pub answer-says : (text : List ℕ) (h : Header) → h ≡ headerOf text → headerAnswer text ≡ headerSays h
 unfolding headerAnswer
@@ -54,7 +73,8 @@ answer-says text h e = ap headerSays (sym e)
 pub decoded-known : {m t s order : ℕ} {soft : List ℤ} {before after : List ℕ} {d : Decoding}
     → DecodeAnswers m t s order soft before d after → d .refusal ≡ 0 → Known m t
 decoded-known {d = d} (refused n r) z = absurd (n (sym (ap (λ (x : Decoding). x .refusal) (r .says)) ∙ z))
-decoded-known {d = d} (nothing e n r) z = let q : _≡_ {A = ℕ} 6 0 = sym (ap (λ (x : Decoding). x .refusal) (r .says)) ∙ z in absurd (omega arith)
+decoded-known {d = d} (nothing e n r) z = let q : _≡_ {A = ℕ} 6 0 = sym (ap (λ (x : Decoding). x .refusal) (r .says))
+    ∙ z in absurd (omega arith)
 decoded-known {m} {t} {s} {order} {soft} {before} (decoded e r) z = decode-passed m t s order (length soft) (length before) e .known
 
 module _ (h : Header) (text : List ℕ) where
@@ -92,5 +112,5 @@ word-answer-long h a b p q = answers-line h a (rw (lt-leb (length a) 512 p)) ∙
 
 -- a missing header is a wrong one
 pub missing-header : headerAnswer [] ≡ headerLine
-unfolding headerAnswer headerOf parts isNumber
+unfolding headerAnswer headerOf items isNumber
 missing-header = says-header (headerOf []) refl

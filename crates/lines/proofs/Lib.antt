@@ -1,12 +1,6 @@
-pub mod PartsLaws
-pub mod ScanLaws
-pub mod ScanSteps
-pub mod SignedLaws
-pub mod ReadSteps
-pub mod HeaderSteps
-pub mod ValuesSteps
-pub mod DecimalLaws
-pub mod PutLaws
-pub mod PutSteps
 pub mod AnswerLaws
+pub mod KeptLaws
+pub mod StillLaws
+pub mod BlockLaws
+pub mod ClaimsShown
 pub mod Anchors

@@ -4,32 +4,33 @@
 --   wordAnswer h text   what a word line prints under the header h
 -- Assumes nothing.
 use mathlib.Core.Bool.{Bool, cond, _&&_}
-use mathlib.Core.List.{List, [], _∷_}
+use mathlib.Core.List.{List, []}
 use Prim.Native.Nat.{ℕ}
 use lib.Dec.{eqb}
 use lib.IntN.{ℤ}
 use lib.ListN.{take, replicate}
-use Rattle.frame.specs.Shape.{bytesOf}
-use Rattle.frame.specs.Refusal.{firstMet, unknownCode, tooShort, highOrder}
-use Rattle.decode.specs.Called.{Call, Result, resultOf}
-use Rattle.lines.specs.Header.{headerOf}
-use Rattle.lines.specs.WordLine.{valuesOf}
-use Rattle.lines.specs.Output.{headerLine, lineLine, refusedLine, okLine}
-use Rattle.lines.specs.declared.header.Header.{Header}
+use Rattle.words.specs.Packing.{bytesOf}
+use Rattle.frame.specs.Refusal.{headerRefusal}
+use Rattle.decode.specs.Call.{Call, Result}
+use Rattle.decode.specs.Called.{resultOf}
+use Rattle.input_lines.specs.Header.{headerOf}
+use Rattle.input_lines.specs.WordLine.{valuesOf}
+use Rattle.output_lines.specs.Output.{headerLine, lineLine, refusedLine, okLine}
+use Rattle.input_lines.specs.declared.header.Header.{Header}
 
--- "refusals 1 to 3": the checks of decode that the header alone decides, in their order; 0 for none
-unfoldable pub headerRefusal : Header → ℕ
-headerRefusal h = firstMet (unknownCode (h .m) (h .t) ∷ tooShort (h .m) (h .t) (h .s) ∷ highOrder (h .order) ∷ [])
+-- "refusals 1 to 3", those of decode that the header decides; 0 for none
+abbrev pub refusalOf : Header → ℕ
+refusalOf h = headerRefusal (h .m) (h .t) (h .s) (h .order)
 
 -- "A wrong header (a missing one too) prints `header` and ends; refusals 1 to 3 print `refused N` and end."
 unfoldable pub headerSays : Header → List ℕ
-headerSays h = cond (h .good) (cond (eqb (headerRefusal h) 0) [] (refusedLine (headerRefusal h))) headerLine
+headerSays h = cond (h .good) (cond (eqb (refusalOf h) 0) [] (refusedLine (refusalOf h))) headerLine
 
 unfoldable pub headerAnswer : List ℕ → List ℕ
 headerAnswer text = headerSays (headerOf text)
 
 unfoldable pub headerGoesOn : Header → Bool
-headerGoesOn h = h .good && eqb (headerRefusal h) 0
+headerGoesOn h = h .good && eqb (refusalOf h) 0
 
 abbrev pub goesOn : List ℕ → Bool
 goesOn text = headerGoesOn (headerOf text)

@@ -1,7 +1,6 @@
-pub mod Line
-pub mod Header
-pub mod WordLine
-pub mod Output
 pub mod Answer
-pub mod Put
-pub mod Inner
+pub mod Program
+pub mod Awaited
+pub mod Memory
+pub mod Finished
+pub mod Claims

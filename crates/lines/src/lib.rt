@@ -1,6 +1,3 @@
-// The program's text forms as functions on slices: the header, word lines, and the answer to each.
-pub mod part; // part.rt: the part of a line up to the next space, as a number
-pub mod header; // header.rt: the first line
-pub mod word_line; // word_line.rt: the values of a word line
-pub mod output; // output.rt: the lines that are printed
-pub mod answer; // answer.rt: what a line prints
+// What each line of the input prints, by what the program awaits. The whole program as one function is specs/Program.
+pub mod answer; // answer.rt: what a first line and a word line print
+pub mod phase; // phase.rt: what a finished line prints, and what is awaited after it

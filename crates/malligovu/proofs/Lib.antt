@@ -1,2 +1,1 @@
-pub mod ExampleShown
 pub mod TakenLaws

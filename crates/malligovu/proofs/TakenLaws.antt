@@ -5,7 +5,7 @@ use mathlib.Core.List.{List, []}
 use Prim.Native.Nat.{ℕ, zero, suc}
 use native.Mathlib.Omega.{arith}
 use lib.ListN.{take}
-use Rattle.stream.specs.Memory.{Memory, afterBlock, endSays}
+use Rattle.lines.specs.Memory.{Memory, afterBlock, endSays}
 use Rattle.stream.specs.Stepped.{Ready, memoryOf}
 use Rattle.stream.specs.declared.State.{State}
 use Rattle.stdio.specs.Outcome.{Within}

@@ -14,12 +14,12 @@ use mathlib.Core.Bool.{Bool, true, false}
 use mathlib.Core.List.{List, []}
 use Prim.Native.Nat.{ℕ, zero, suc, _≤_}
 use lib.ListN.{length, take}
-use Rattle.lines.specs.Put.{Put}
-use Rattle.stream.specs.Awaited.{isEnded}
-use Rattle.stream.specs.Memory.{Memory, blockSays, afterBlock, endSays}
+use Rattle.output_lines.specs.Put.{Put}
+use Rattle.lines.specs.Awaited.{isEnded}
+use Rattle.lines.specs.Memory.{Memory, blockSays, afterBlock, endSays}
 use Rattle.stream.specs.Stepped.{Ready, memoryOf}
 use Rattle.stream.specs.declared.State.{State}
-use Rattle.stream.specs.declared.phase.Phase.{Phase}
+use Rattle.lines.specs.declared.phase.Phase.{Phase}
 use Rattle.stdio.specs.Outcome.{Within}
 use Rattle.stdio.specs.declared.Outcome.{Outcome}
 use Rattle.stdio.specs.declared.Outcome.the-variants.{Moved, Later, Failed}

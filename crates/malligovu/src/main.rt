@@ -2,7 +2,7 @@
 ghost use mathlib.Core.Path.{_≡_};
 ghost use Prim.Native.Nat.{_≤_};
 ghost use lib.ListN.{length};
-ghost use Rattle.stream.specs.Memory.{endSays};
+ghost use Rattle.lines.specs.Memory.{endSays};
 ghost use Rattle.stream.specs.Stepped.{Ready, memoryOf};
 ghost use Rattle.stdio.specs.Outcome.{Within};
 ghost use Rattle.malligovu.specs.Taken.{Printed, ReadsOn, Answers, Follows, Turns};

@@ -1,5 +1,2 @@
-pub mod WeighTurn
-pub mod PatternTurn
 pub mod PatternCount
-pub mod ChainLaws
-pub mod SkipTurn
+pub mod SkipSteps

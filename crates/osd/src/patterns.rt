@@ -1,24 +1,28 @@
 // All patterns with few flips: each reliable rank, from rank 0 on, is either kept or flipped.
-use crate::best::Best;
-use crate::candidates::pattern;
-use crate::chains::chain;
-use crate::chains::next_flip;
-use crate::chains::slot;
-use crate::flips::Flips;
-use crate::parts::base_part;
-use crate::parts::parts_of;
+use candidates::best::Best;
+use candidates::pattern::pattern;
+use parts::chains::Chains;
+use parts::chains::chain;
+use parts::chains::next_flip;
+use parts::chains::slot;
+use parts::columns::Parts;
+use parts::columns::base_part;
+use parts::columns::parts_of;
+use parts::flips::Flips;
 use prepare::Prepared;
+use prepare::Symbols;
 use ranks::Rank;
 ghost use mathlib.Core.Path.{_≡_};
 ghost use Prim.Native.Nat.{_+_, _-_, _^_, _<_, _≤_};
 ghost use Rattle.field.specs.Field.{_⊕_};
-ghost use Rattle.search.specs.Search.{patterns, bestOver};
+ghost use Rattle.search.specs.Search.{patterns};
 ghost use Rattle.search.specs.Plan.{Fits};
-ghost use Rattle.search.specs.ByRank.{tried, rankSearched};
+ghost use Rattle.search.specs.ByRank.{rankSearched};
 ghost use Rattle.prepare.specs.PlanOf.{planOf};
-ghost use Rattle.osd.specs.As.{asBest};
-ghost use Rattle.osd.specs.Inner.Parts.{Made};
-ghost use Rattle.osd.specs.Inner.Chains.{Tabled};
+ghost use Rattle.candidates.specs.As.{asBest, mostCounted};
+ghost use Rattle.parts.specs.Parts.{Made};
+ghost use Rattle.parts.specs.Chains.{Tabled};
+ghost use Rattle.osd.specs.BestFrom.{bestFrom};
 
 // How many ranks are linked in the chains: none where no flip is allowed, since nothing is looked up then.
 fn linked(size: u8, order: u8) -> usize
@@ -41,13 +45,13 @@ fn keep<'a>(
     may: u8,
     flips: Flips,
     best: Best,
-    symbols: &'a [u8; 378],
-    parts: &'a [u16; 64],
-    chains: &'a [u8; 1088],
+    symbols: &'a Symbols,
+    parts: &'a Parts,
+    chains: &'a Chains,
 ) -> Best
     requires { ⌜ Fits (planOf p) × (now symbols ≡ p .symbols) × Made p flips × (0 < may → Tabled p (now parts) (now chains)) ⌝ }
-    requires { ⌜ (rank .0 ≤ p .size) × (best .count + patterns (p .size - rank .0) may ≤ 100000) ⌝ }
-    ensures { λ r. ⌜ asBest r ≡ bestOver (λ i. i) (tried (planOf p)) (p .size - rank .0) (rank .0) may (flips .ranks) (asBest best) ⌝ }
+    requires { ⌜ (rank .0 ≤ p .size) × (best .count + patterns (p .size - rank .0) may ≤ mostCounted) ⌝ }
+    ensures { λ r. ⌜ asBest r ≡ bestFrom p (rank .0) may (flips .ranks) (asBest best) ⌝ }
 {
     // With no flip left the pattern is all. `pattern` is called here and below, since a function that is called in one place alone is
     // compiled into its caller, and keep would then copy the prepared word at each call of flip.
@@ -73,13 +77,13 @@ fn flip<'a>(
     may: u8,
     flips: Flips,
     best: Best,
-    symbols: &'a [u8; 378],
-    parts: &'a [u16; 64],
-    chains: &'a [u8; 1088],
+    symbols: &'a Symbols,
+    parts: &'a Parts,
+    chains: &'a Chains,
 ) -> Best
     requires { ⌜ Fits (planOf p) × (now symbols ≡ p .symbols) × Made p flips × Tabled p (now parts) (now chains) ⌝ }
-    requires { ⌜ (rank .0 < p .size) × (0 < may) × (best .count + patterns (p .size - (rank .0 + 1)) (may - 1) ≤ 100000) ⌝ }
-    ensures { λ r. ⌜ asBest r ≡ bestOver (λ i. i) (tried (planOf p)) (p .size - (rank .0 + 1)) (rank .0 + 1) (may - 1) (flips .ranks ⊕ 2 ^ rank .0) (asBest best) ⌝ }
+    requires { ⌜ (rank .0 < p .size) × (0 < may) × (best .count + patterns (p .size - (rank .0 + 1)) (may - 1) ≤ mostCounted) ⌝ }
+    ensures { λ r. ⌜ asBest r ≡ bestFrom p (rank .0 + 1) (may - 1) (flips .ranks ⊕ 2 ^ rank .0) (asBest best) ⌝ }
 {
     let i = rank.0 as usize;
     let made = flips.with(rank, parts[i]);

@@ -13,7 +13,7 @@ use Rattle.field.proofs.RingLaws.{times-zero}
 use Rattle.codes.specs.Lagrange.{Places, shortCell}
 use Rattle.codes.proofs.RootLaws.{pw-lt, pw-pos, pw-round, differ}
 use Rattle.codes.proofs.ShortQuotient.{grown, short-quotient}
-use Rattle.gf.specs.Exponent.{Zech, orOne, oneMore}
+use Rattle.exponents.specs.Exponent.{Zech, orOne, oneMore}
 use Rattle.prepare.specs.Inner.Exponents.{outsideOf, zechAt, exponentOf, cellExponent}
 
 module _ (m : ℕ) (F : Laws m) where
@@ -75,7 +75,11 @@ module _ (m : ℕ) (F : Laws m) where
     zech-is p v hp hv = rule (n - U v + p) (omega arith) .1
 
     outside : Places m rows U
-    outside = record { inside = inside; apart = λ i j hi hj e. let s = each .apart (size + i) (size + j) (omega arith) (omega arith) e in omega arith }
+    outside = record {
+      inside = inside;
+      apart = λ i j hi hj e. let s = each .apart (size + i) (size + j) (omega arith) (omega arith)
+          e in omega arith;
+    }
 
     exponent-grown : (k p : ℕ) → alphaTo m (E k p) ≡ grown m (B p) (alphaTo m (p * 1)) k
     unfolding exponentOf grown

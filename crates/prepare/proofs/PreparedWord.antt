@@ -10,16 +10,16 @@ use Rattle.field.specs.Field.{lengthOf}
 use Rattle.field.specs.Laws.{Laws}
 use Rattle.field.proofs.FieldLaws.{laws}
 use Rattle.codes.proofs.ShapeLaws.{length-small, roots-fit}
-use Rattle.codes.specs.Word.{bitOf, wordOf}
+use Rattle.codes.specs.Codeword.{bitOf, wordOf}
 use Rattle.codes.specs.Code.{Known}
 use Rattle.codes.specs.Lagrange.{Places, cell}
 use Rattle.codes.proofs.WordLaws.{bit-lt, bit-word, word-lt}
 use Rattle.codes.proofs.ShortForm.{cell-is-short}
 use Rattle.codes.proofs.WordSteps.{word-cong}
 use Rattle.soft.specs.Value.{hard}
-use Rattle.soft.specs.Order.{Sorted}
+use Rattle.soft.specs.Sorted.{Sorted}
 use Rattle.search.specs.Plan.{Fits, Prepares}
-use Rattle.frame.specs.Packing.{unpacked}
+use Rattle.words.specs.Packing.{unpacked}
 use Rattle.search.proofs.BestIsNearest.{hard-lt}
 use Rattle.ranks.specs.Places.{placeIn}
 use Rattle.ranks.specs.Receives.{Receives}
@@ -84,7 +84,8 @@ module _ (m t : ℕ) (known : Known m t) (n : ℕ) (long : n ≡ lengthOf m) (so
   hards = made .hards ∙ got .hards L short
 
   hard-at : (i : ℕ) → i < L → bitOf (r .hards) (R i) ≡ hard soft (R i)
-  hard-at i l = ap (λ (u : ℕ). bitOf u (R i)) (got .hards L short) ∙ bit-word L (hard soft) (λ q _. hard-lt soft q) (R i) (made .order .inside i l)
+  hard-at i l =
+      ap (λ (u : ℕ). bitOf u (R i)) (got .hards L short) ∙ bit-word L (hard soft) (λ q _. hard-lt soft q) (R i) (made .order .inside i l)
 
   bit-at : (i : ℕ) → i < L → bitOf (b .bits) i ≡ bitOf (unpacked (p .hards) 8) (R i)
   unfolding ranked
@@ -122,7 +123,8 @@ module _ (m t : ℕ) (known : Known m t) (n : ℕ) (long : n ≡ lengthOf m) (so
     sides = sides;
     base = λ q l.
         made .base q (omega (arith, known .t-high)) ∙ ap (λ (u : ℕ). rowSum (p .symbols) (b .bits) u q) (made .size)
-        ∙ symbol-is m F (2 * t) R (p .symbols) (b .bits) (unpacked (p .hards) 8) q (λ j lj. cell-at q j l lj) (λ j lj. bit-at j (omega arith));
+        ∙ symbol-is m F (2 * t) R (p .symbols) (b .bits) (unpacked (p .hards) 8) q (λ j lj. cell-at q j l lj)
+        (λ j lj. bit-at j (omega arith));
     weight = λ i l. weight-at i l ∙ got .reliabilities (R i) (made .order .small i);
     column = cell-at;
   }

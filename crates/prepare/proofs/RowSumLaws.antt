@@ -14,7 +14,7 @@ use Rattle.field.specs.Field.{_⊕_, lengthOf}
 use Rattle.field.specs.Laws.{Laws}
 use Rattle.field.proofs.XorLaws.{xor-zero, zero-xor, xor-self, xor-swap}
 use Rattle.field.proofs.XorSumLaws.{xorsum-cong}
-use Rattle.codes.specs.Word.{bitOf}
+use Rattle.codes.specs.Codeword.{bitOf}
 use Rattle.codes.specs.Lagrange.{cell}
 use Rattle.codes.proofs.WordLaws.{bit-shift}
 use Rattle.search.specs.Search.{symbol}
@@ -36,7 +36,8 @@ module _ (symbols : List ℕ) (bits size : ℕ) where
   sum-low : (q : ℕ) → rowSum symbols (bits % 2 ^ size) size q ≡ rowSum symbols bits size q
   unfolding rowSum
   sum-low q =
-      xor-bits-sum _ size (bits % 2 ^ size) ∙ xorsum-cong size _ _ (λ j l. ap (λ (u : ℕ). u * getD symbols (q * 63 + j) 0) (bit-low bits size j l))
+      xor-bits-sum _ size (bits % 2 ^ size)
+      ∙ xorsum-cong size _ _ (λ j l. ap (λ (u : ℕ). u * getD symbols (q * 63 + j) 0) (bit-low bits size j l))
       ∙ sym (xor-bits-sum _ size bits)
 
   -- the sums so far, and what the bits that are left add to them, are the rows' sums
@@ -57,7 +58,8 @@ module _ (symbols : List ℕ) (bits size : ℕ) where
       })
 
   -- one bit less is left
-  pub summed-more : (sums next : List ℕ) (rest : ℕ) → 0 < rest → size ≤ 63 → Summed sums rest → AddsColumn (trailingZeros 64 rest) symbols sums next
+  pub summed-more : (sums next : List ℕ) (rest : ℕ) → 0 < rest → size ≤ 63 → Summed sums rest
+      → AddsColumn (trailingZeros 64 rest) symbols sums next
       → Summed next (bitAnd rest (rest - 1))
   unfolding rowSum
   summed-more sums next rest some fit s add = record {
@@ -74,7 +76,8 @@ module _ (symbols : List ℕ) (bits size : ℕ) where
   unfolding rowSum
   summed-all sums rest e s q l =
       sym (xor-zero (getD sums q 0))
-      ∙ ap (λ (u : ℕ). getD sums q 0 ⊕ u) (sym (ap (λ (u : ℕ). rowSum symbols u size q) e ∙ xor-none (λ j. getD symbols (q * 63 + j) 0) size))
+      ∙ ap (λ (u : ℕ). getD sums q 0 ⊕ u)
+      (sym (ap (λ (u : ℕ). rowSum symbols u size q) e ∙ xor-none (λ j. getD symbols (q * 63 + j) 0) size))
       ∙ s .left q l
 
 -- "the sum, over reliable positions j whose bit is 1": R has the positions by rank

@@ -2,7 +2,7 @@
 use Prim.Native.Nat.{_+_, _*_}
 use lib.ListN.{getD}
 use Rattle.search.specs.Plan.{Plan}
-use Rattle.frame.specs.Packing.{unpacked}
+use Rattle.words.specs.Packing.{unpacked}
 use Rattle.ranks.specs.Places.{placeIn}
 use Rattle.prepare.specs.declared.Prepared.{Prepared}
 

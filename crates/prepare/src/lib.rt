@@ -1,6 +1,6 @@
 // A word that is prepared: what stays for all patterns, made once a word.
 mod by_rank; // what is by position, by rank
-mod exponents; // products as sums of exponents
+mod products; // as sums of exponents
 mod table; // the symbol table
 mod unflipped; // the symbols of the unflipped pattern
 
@@ -9,10 +9,13 @@ ghost use Prim.Native.Nat.{_-_, _*_, _≤_};
 ghost use lib.ListN.{length};
 ghost use Rattle.field.specs.Field.{lengthOf};
 ghost use Rattle.codes.specs.Code.{Known};
-ghost use Rattle.frame.specs.Packing.{unpacked};
+ghost use Rattle.words.specs.Packing.{unpacked};
 ghost use Rattle.search.specs.Plan.{Fits, Prepares};
 ghost use Rattle.prepare.specs.PlanOf.{planOf};
 use ranks::Position;
+
+// The symbol table: what a 1 at rank j adds to the symbol of row q, at q * 63 + j.
+pub type Symbols = [u8; 378];
 
 // What is by rank has the reliable set first, then the places outside. Bytes alone, since a struct that wants to be aligned is
 // copied at each call that it is passed on to.
@@ -28,8 +31,7 @@ pub struct Prepared {
     // the position and the reliability of each rank
     pub order: [Position; 63],
     pub weight: [u8; 63],
-    // what a 1 at rank j adds to the symbol of row q, at q * 63 + j
-    pub symbols: [u8; 378],
+    pub symbols: Symbols,
 }
 
 // The size of the reliable set: the first n-2t ranks.
@@ -37,15 +39,15 @@ fn reliable_size(m: u8, t: u8) -> usize
     requires { ⌜ Known m t ⌝ }
     ensures { λ r. ⌜ r ≡ lengthOf m - 2 * t ⌝ }
 {
-    frame::length_of(m as u16) - (2 * t) as usize
+    words::length_of(m as u16) - (2 * t) as usize
 }
 
 // A word's bytes, lowest first.
-fn bytes_of(word: u64) -> [u8; 8]
+fn word_bytes(word: u64) -> [u8; 8]
     ensures { λ r. ⌜ unpacked r 8 ≡ word ⌝ }
 {
     let mut bytes = [0u8; 8];
-    frame::put_word(word, 8, &mut bytes);
+    words::put_word(word, 8, &mut bytes);
     bytes
 }
 
@@ -54,7 +56,7 @@ pub fn prepare(m: u8, t: u8, soft: &[i8]) -> Prepared
     requires { ⌜ Known m t × (length (now soft) ≤ lengthOf m) ⌝ }
     ensures { λ r. ⌜ Prepares m 1 (2 * t) (now (soft .entry)) (planOf r) × Fits (planOf r) ⌝ }
 {
-    let n = frame::length_of(m as u16);
+    let n = words::length_of(m as u16);
     let size = reliable_size(m, t);
     let rows = n - size;
     let received = ranks::values::receive(soft);
@@ -67,7 +69,7 @@ pub fn prepare(m: u8, t: u8, soft: &[i8]) -> Prepared
     let sides = bits >> size;
     let symbols = table::symbol_table(m, order, n, size, rows);
     let base = unflipped::row_sums(&symbols, bits, size);
-    let bytes = bytes_of(hards);
+    let bytes = word_bytes(hards);
     Prepared {
         size: size as u8,
         rows: rows as u8,

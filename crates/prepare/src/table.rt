@@ -1,7 +1,8 @@
 // The symbol table, by exponents. A cell is a quotient of products over the places outside (codes/specs/Lagrange, `shortCell`). The
 // factors a^u that their sums have by Zech's logarithms z are the same above and below: the exponent of the cell of position p, in
-// the row of the place u, is e(p) - e(u) - z(p-u), with e as exponents.rt makes it.
-use crate::exponents;
+// the row of the place u, is e(p) - e(u) - z(p-u), with e as products.rt makes it.
+use crate::Symbols;
+use crate::products;
 use ranks::Position;
 use ranks::Rank;
 ghost use mathlib.Core.Path.{_≡_};
@@ -28,7 +29,7 @@ fn put_row(
 {
     let mut p = 0;
     while p < 64 {
-        let less = exponents::plus(n, own, zech[from + p]);
+        let less = products::plus(n, own, zech[from + p]);
         rows[q * 64 + p] = list[p] + n - less;
         p += 1;
     }
@@ -46,10 +47,10 @@ fn cell_exponents(
     ensures { λ r. ⌜ CellExponents n size (now (zech .entry)) (placeIn order) rows rows r ⌝ }
 {
     let mut table = [0u8; 384];
-    let list = exponents::of_positions(zech, order, n, size, rows);
+    let list = products::of_positions(zech, order, n, size, rows);
     let mut q = 0;
     while q < rows {
-        let u = exponents::outside_at(order, size, q).0 as usize;
+        let u = products::outside_at(order, size, q).0 as usize;
         let own = list[u];
         put_row(zech, &list, n as u8, n - u, own, q, &mut table);
         q += 1;
@@ -63,10 +64,11 @@ fn put_column(
     exponents: &[u8; 384],
     position: Position,
     rank: Rank,
-    table: &mut [u8; 378],
+    table: &mut Symbols,
 )
     requires { ⌜ (position .0 < 64) × (rank .0 < 63) × Below 128 384 (now exponents) × (length (now table) ≡ 378) ⌝ }
-    ensures { λ _. ⌜ PutsColumn (position .0) (rank .0) (now (powers .entry)) (now (exponents .entry)) (now (table .entry)) (now (table .exit)) ⌝ }
+    ensures { λ _. ⌜ PutsColumn (position .0) (rank .0) (now (powers .entry)) (now (exponents .entry))
+        (now (table .entry)) (now (table .exit)) ⌝ }
 {
     let p = position.0 as usize;
     let j = rank.0 as usize;
@@ -78,13 +80,13 @@ fn put_column(
 }
 
 // All columns, from rank 0 on. Like `gather` it goes along the order itself, since a call of `position_at` would copy it at each turn.
-pub fn symbol_table(m: u8, order: [Position; 63], n: usize, size: usize, rows: usize) -> [u8; 378]
+pub fn symbol_table(m: u8, order: [Position; 63], n: usize, size: usize, rows: usize) -> Symbols
     requires { ⌜ Numbered m n size rows (placeIn order) ⌝ }
     ensures { λ r. ⌜ Cells m size rows (placeIn order) r ⌝ }
 {
     let mut table = [0u8; 378];
-    let powers = gf::exponents::powers(m);
-    let zech = gf::exponents::zech(m);
+    let powers = exponents::powers(m);
+    let zech = exponents::zech(m);
     let exponents = cell_exponents(&zech, order, n, size, rows);
     let mut j = 0;
     while j < size {

@@ -3,9 +3,10 @@ ghost use mathlib.Core.Path.{_≡_};
 ghost use Prim.Native.Nat.{_≤_, _<_};
 ghost use lib.ListN.{length};
 ghost use Rattle.prepare.specs.Inner.Table.{AddsColumn, RowSums};
+use crate::Symbols;
 
 // The sums with the column of rank j added, in all six rows, used or not.
-fn plus_column(symbols: &[u8; 378], j: usize, mut sums: [u8; 6]) -> [u8; 6]
+fn plus_column(symbols: &Symbols, j: usize, mut sums: [u8; 6]) -> [u8; 6]
     requires { ⌜ (j < 63) × (length sums ≡ 6) ⌝ }
     ensures { λ r. ⌜ AddsColumn j (now (symbols .entry)) sums r ⌝ }
 {
@@ -18,7 +19,7 @@ fn plus_column(symbols: &[u8; 378], j: usize, mut sums: [u8; 6]) -> [u8; 6]
 }
 
 // The sums of all rows, over the set bits below `size`.
-pub fn row_sums(symbols: &[u8; 378], bits: u64, size: usize) -> [u8; 6]
+pub fn row_sums(symbols: &Symbols, bits: u64, size: usize) -> [u8; 6]
     requires { ⌜ size ≤ 63 ⌝ }
     ensures { λ r. ⌜ RowSums (now (symbols .entry)) bits size r ⌝ }
 {

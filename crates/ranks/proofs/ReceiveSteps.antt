@@ -16,7 +16,7 @@ use native.Mathlib.Omega.{arith}
 use lib.IntN.{ℤ, pos, negsuc, natAbs}
 use lib.ListN.{length, getD, set, replicate, length-set, length-replicate, getD-replicate, List·getD-eq-default}
 use lib.Seq.{getD-set-same, getD-set-other}
-use Rattle.codes.specs.Word.{wordOf}
+use Rattle.codes.specs.Codeword.{wordOf}
 use Rattle.soft.specs.Value.{softAt, hardOf, hard, reliability}
 use Rattle.ranks.specs.Receives.{Receives}
 use Rattle.ranks.specs.Inner.Reliabilities.{Reliabilities}
@@ -70,7 +70,8 @@ module _ (soft : List ℤ) where
       hards-more =
           let e : p ≡ p - 1 + 1 = omega arith in (
             omega (arith, before .0),
-            ap₂ (λ (x y : ℕ). x * 2 + y) (before .1 ∙ ap (wordFrom (length soft) (hard soft)) e) (bit ∙ hard-sent (p - 1) v (omega (arith, before .0)) here)
+            ap₂ (λ (x y : ℕ). x * 2 + y) (before .1 ∙ ap (wordFrom (length soft) (hard soft)) e)
+                (bit ∙ hard-sent (p - 1) v (omega (arith, before .0)) here)
                 ∙ sym (word-from-more (length soft) (hard soft) (p - 1) (omega (arith, before .0))),
           )
 
@@ -92,7 +93,8 @@ module _ (soft : List ℤ) where
   }
 
   module _ (p : ℕ) (values : List ℕ) (before : FirstIn p values) where
-    pub one-more-in : (v : ℤ) (x : ℕ) → p < length soft → p < 63 → v ≡ getD soft p (pos 0) → (x ≡ natAbs v) × (x ≤ 128) → FirstIn (p + 1) (set values p x)
+    pub one-more-in : (v : ℤ) (x : ℕ) → p < length soft → p < 63 → v ≡ getD soft p (pos 0) → (x ≡ natAbs v) × (x ≤ 128)
+        → FirstIn (p + 1) (set values p x)
     one-more-in v x inside room here s = record {
       at = omega arith;
       size = length-set values p x ∙ before .size;
@@ -114,7 +116,8 @@ module _ (soft : List ℤ) where
 
     pub all-in : length soft ≤ p → Reliabilities soft values
     all-in end k l = (
-      by-cases (decLt k p) (λ b. before .sent k b) (λ b. before .unsent k (omega arith) l ∙ reliability-unsent k (omega (arith, before .at))),
+      by-cases (decLt k p) (λ b. before .sent k b)
+          (λ b. before .unsent k (omega arith) l ∙ reliability-unsent k (omega (arith, before .at))),
       before .small k l,
     )
 

@@ -4,7 +4,7 @@ use mathlib.Core.List.{List}
 use Prim.Native.Nat.{ℕ, _<_, _≤_}
 use lib.IntN.{ℤ}
 use lib.ListN.{length, getD}
-use Rattle.codes.specs.Word.{wordOf}
+use Rattle.codes.specs.Codeword.{wordOf}
 use Rattle.soft.specs.Value.{hard, reliability}
 use Rattle.ranks.specs.declared.values.Received.{Received}
 

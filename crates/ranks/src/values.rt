@@ -3,7 +3,7 @@ ghost use mathlib.Core.Path.{_≡_};
 ghost use Prim.Native.Nat.{_≤_};
 ghost use lib.ListN.{length};
 ghost use lib.IntN.{natAbs};
-ghost use Rattle.codes.specs.Word.{wordOf};
+ghost use Rattle.codes.specs.Codeword.{wordOf};
 ghost use Rattle.soft.specs.Value.{hardOf, hard};
 ghost use Rattle.ranks.specs.Receives.{Receives};
 ghost use Rattle.ranks.specs.Inner.Reliabilities.{Reliabilities};

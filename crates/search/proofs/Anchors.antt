@@ -9,7 +9,8 @@ unfolding patterns
 patterns-63-45 = (refl, refl, refl)
 
 -- "Among candidates of equal distance the one with the lowest number wins."
-pub lowest-wins : better (record { found = true; word = 0x6004; distance = 10; flips = 2; count = 1 }) (record { word = 0; distance = 10; flips = 1 })
+pub lowest-wins :
+    better (record { found = true; word = 0x6004; distance = 10; flips = 2; count = 1 }) (record { word = 0; distance = 10; flips = 1 })
     ≡ record { found = true; word = 0; distance = 10; flips = 1; count = 2 }
 unfolding better stays
 lowest-wins = refl

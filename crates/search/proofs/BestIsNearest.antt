@@ -16,13 +16,14 @@ use Rattle.field.specs.Field.{_⊕_, lengthOf}
 use Rattle.field.specs.Laws.{Laws}
 use Rattle.field.proofs.TestLaws.{and-left, and-right, is-true, is-false, lex-says, and-both}
 use Rattle.field.proofs.TotalLaws.{total-cong, total-zero, total-head, total-split}
-use Rattle.codes.specs.Word.{bitOf, wordOf}
+use Rattle.codes.specs.Codeword.{bitOf, wordOf}
 use Rattle.codes.proofs.WordLaws.{bit-word}
 use Rattle.soft.specs.Value.{softAt, hardOf, hard}
-use Rattle.soft.specs.Order.{reliable, Sorted}
+use Rattle.soft.specs.Order.{reliable}
+use Rattle.soft.specs.Sorted.{Sorted}
 use Rattle.soft.specs.Distance.{differs, softDistance, flipsOf, reliableFlips}
 use Rattle.soft.proofs.OrderLaws.{in-order, reliable-at}
-use Rattle.search.specs.Candidate.{Candidate, Nearest, Counted, Member}
+use Rattle.soft.specs.Candidate.{Candidate, Nearest, Counted, Member}
 use Rattle.search.specs.Best.{Best, none, pick, stays, better}
 use Rattle.search.specs.Search.{weighed, seeIf, seePattern, bestOver, searched, binary, completed}
 use Rattle.search.proofs.EveryCandidateSeen.{apart, apartFrom, Reached, addIf, seen, seen→, seen←, seen-once}
@@ -71,8 +72,12 @@ module _ (m : ℕ) (soft : List ℤ) where
             member = inr (L .member);
             distance = d;
             flips = L .flips;
-            least = λ v. ⊎-elim (λ e. subst (λ (u : ℕ). far (x .word) ≤ far u) (sym e) (⊎-elim (λ a. omega arith) (λ a. omega arith) (nearer-says x w .0 t))) (L .least v);
-            lowest = λ v. ⊎-elim (λ e q. let q′ : far w ≡ far (x .word) = ap far (sym e) ∙ q in ⊎-elim (λ a. omega arith) (λ a. omega arith) (nearer-says x w .0 t)) (L .lowest v);
+            least =
+                λ v. ⊎-elim (λ e. subst (λ (u : ℕ). far (x .word) ≤ far u) (sym e)
+                (⊎-elim (λ a. omega arith) (λ a. omega arith) (nearer-says x w .0 t))) (L .least v);
+            lowest =
+                λ v. ⊎-elim (λ e q. let q′ : far w ≡ far (x .word) = ap far (sym e)
+                ∙ q in ⊎-elim (λ a. omega arith) (λ a. omega arith) (nearer-says x w .0 t)) (L .lowest v);
           };
           any = λ v _. tt;
         }
@@ -96,7 +101,8 @@ module _ (m : ℕ) (soft : List ℤ) where
             let L = H .leads f in
             let d : x .distance ≡ far (x .word) = L .distance in
             let a : far (x .word) ≤ far v = L .least v h in
-            ⊎-elim (λ c. absurd (omega arith)) (λ c. let z : far v ≡ far (x .word) = omega arith in let y = L .lowest v h z in omega arith) (nearer-no x w (n f)));
+            ⊎-elim (λ c. absurd (omega arith)) (λ c. let z : far v ≡ far (x .word) = omega arith in let y = L .lowest v h z in omega arith)
+            (nearer-no x w (n f)));
       };
       any = λ v _. tt;
     }
@@ -106,26 +112,32 @@ module _ (m : ℕ) (soft : List ℤ) where
     see-holds = go (x .found && nearer x w) refl
       where
         go : (t : Bool) → (x .found && nearer x w) ≡ t
-            → Holds (w ∷ l) (pick t (record { found = true; word = x .word; distance = x .distance; flips = x .flips; count = x .count + 1 })
+            → Holds (w ∷ l) (pick t (record
+            { found = true; word = x .word; distance = x .distance; flips = x .flips; count = x .count + 1 })
             (record { found = true; word = w; distance = far w; flips = flipsOf m soft w; count = x .count + 1 }))
-        go true e = let t : T (x .found && nearer x w) = subst T (sym e) tt in keeps (and-left (x .found) (nearer x w) t) (and-right (x .found) (nearer x w) t)
+        go true e =
+            let t : T (x .found && nearer x w) = subst T (sym e) tt in
+            keeps (and-left (x .found) (nearer x w) t) (and-right (x .found) (nearer x w) t)
         go false e = gives-way (λ f t. subst T e (and-both (x .found) (nearer x w) f t))
 
   pub none-holds : Holds [] none
   none-holds = record { number = refl; leads = λ t. absurd t; any = λ v h. absurd h }
 
   module _ (b r : ℕ) (R : ℕ → ℕ) where
-    add-holds : (t : Bool) (v : ℕ) (acc : List ℕ) (x : Best) → Holds acc x → Holds (addIf R m b r t (completed m b r R v) acc) (seeIf m b r R soft t v x)
+    add-holds : (t : Bool) (v : ℕ) (acc : List ℕ) (x : Best) → Holds acc x
+        → Holds (addIf R m b r t (completed m b r R v) acc) (seeIf m b r R soft t v x)
     add-holds true v acc x H = see-holds acc x (completed m b r R v) H
     add-holds false v acc x H = H
 
     -- the search is right of the words that it completes
-    pub search-holds : (k i may v : ℕ) (acc : List ℕ) (x : Best) → Holds acc x → Holds (seen R m b r k i may v acc) (bestOver R (seePattern m b r R soft) k i may v x)
+    pub search-holds : (k i may v : ℕ) (acc : List ℕ) (x : Best) → Holds acc x
+        → Holds (seen R m b r k i may v acc) (bestOver R (seePattern m b r R soft) k i may v x)
     unfolding seen bestOver
     search-holds zero i may v acc x H = add-holds (binary m b r R v) v acc x H
     search-holds (suc k) i zero v acc x H = search-holds k (suc i) zero v acc x H
     search-holds (suc k) i (suc may) v acc x H =
-        search-holds k (suc i) may (v ⊕ 2 ^ R i) (seen R m b r k (suc i) (suc may) v acc) (bestOver R (seePattern m b r R soft) k (suc i) (suc may) v x)
+        search-holds k (suc i) may (v ⊕ 2 ^ R i) (seen R m b r k (suc i) (suc may) v acc)
+        (bestOver R (seePattern m b r R soft) k (suc i) (suc may) v x)
         (search-holds k (suc i) (suc may) v acc x H)
 
 hardOf-lt : (z : ℤ) → hardOf z < 2
@@ -159,8 +171,10 @@ module _ (m b r : ℕ) (soft : List ℤ) (R : ℕ → ℕ) (S : Sorted m soft R)
       apart-total R K 0 received c
       ∙ total-cong K _ (λ i. g (R i)) (λ i l. let e : 0 + i ≡ i = omega arith in
       ap (λ (x : ℕ). apart R x received c) e
-      ∙ ap (λ (x : ℕ). only (not (eqb (bitOf c (R i)) x)) 1) (bit-word (lengthOf m) (hard soft) (λ p _. hard-lt soft p) (R i) (S .order .places .inside i (omega arith)))
-      ∙ ap (λ (x : Bool). only (x && not (eqb (bitOf c (R i)) (hard soft (R i)))) 1) (sym (reliable-at m soft R S r i (omega arith) ∙ is-true (ltb i K) (lt→ltb i K l))))
+      ∙ ap (λ (x : ℕ). only (not (eqb (bitOf c (R i)) x)) 1)
+      (bit-word (lengthOf m) (hard soft) (λ p _. hard-lt soft p) (R i) (S .order .places .inside i (omega arith)))
+      ∙ ap (λ (x : Bool). only (x && not (eqb (bitOf c (R i)) (hard soft (R i)))) 1)
+      (sym (reliable-at m soft R S r i (omega arith) ∙ is-true (ltb i K) (lt→ltb i K l))))
       ∙ sym (in-order m soft R S g ∙ ap (λ (x : ℕ). total x (λ i. g (R i))) full ∙ total-split K r (λ i. g (R i))
       ∙ ap (λ (x : ℕ). total K (λ i. g (R i)) + x) (total-zero r (λ i. g (R (K + i))) (λ i l.
       ap (λ (x : Bool). only (x && not (eqb (bitOf c (R (K + i))) (hard soft (R (K + i))))) 1)
@@ -181,7 +195,12 @@ module _ (m b r : ℕ) (soft : List ℤ) (R : ℕ → ℕ) (S : Sorted m soft R)
     reached→ c h = record { codeword = h .codeword; near = subst (λ (x : ℕ). x ≤ tau) (flips-by-rank c) (h .few) }
 
     reached← : (c : ℕ) → Candidate m b r tau soft c → Reached R m b r K 0 tau received c
-    reached← c h = record { codeword = h .codeword; agrees = λ j l. absurd (omega arith); few = subst (λ (x : ℕ). x ≤ tau) (sym (flips-by-rank c)) (h .near) }
+    reached← c h = record {
+      codeword = h .codeword;
+      agrees = λ j l. absurd (omega arith);
+      few = subst (λ (x : ℕ). x ≤ tau)
+          (sym (flips-by-rank c)) (h .near);
+    }
 
     -- all the candidates, each once
     pub candidates : List ℕ
@@ -216,10 +235,12 @@ module _ (m b r : ℕ) (soft : List ℤ) (R : ℕ → ℕ) (S : Sorted m soft R)
           lowest = λ v h. L .lowest v (candidates-say v .1 h);
         }
 
-    pub search-distance : T (searched m b r R soft tau .found) → searched m b r R soft tau .distance ≡ softDistance m soft (searched m b r R soft tau .word)
+    pub search-distance : T (searched m b r R soft tau .found)
+        → searched m b r R soft tau .distance ≡ softDistance m soft (searched m b r R soft tau .word)
     search-distance t = candidates-hold .leads t .distance
 
-    pub search-flips : T (searched m b r R soft tau .found) → searched m b r R soft tau .flips ≡ flipsOf m soft (searched m b r R soft tau .word)
+    pub search-flips : T (searched m b r R soft tau .found)
+        → searched m b r R soft tau .flips ≡ flipsOf m soft (searched m b r R soft tau .word)
     search-flips t = candidates-hold .leads t .flips
 
     pub search-finds : (c : ℕ) → Candidate m b r tau soft c → T (searched m b r R soft tau .found)

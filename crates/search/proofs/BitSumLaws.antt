@@ -7,7 +7,7 @@ use native.Mathlib.Nat.{eq-or-lt-of-le, le-of-suc-le-suc, one-mul, zero-mul, mul
 use native.Mathlib.Omega.{arith}
 use Rattle.field.specs.Field.{_⊕_}
 use Rattle.field.proofs.XorLaws.{xor-zero, zero-xor, xor-self, xor-cancel, xor-right-comm}
-use Rattle.codes.specs.Word.{bitOf}
+use Rattle.codes.specs.Codeword.{bitOf}
 use Rattle.codes.proofs.WordLaws.{bit-lt, bit-zero, bit-xor, bit-power-same, flip-other}
 use Rattle.search.specs.ByRank.{xorBits, sumBits}
 
@@ -35,7 +35,8 @@ module _ (F : ℕ → ℕ) where
       ⊎-elim
       (λ (e : j ≡ n).
       subst (λ (x : ℕ). xorBits F n (w ⊕ 2 ^ x) ⊕ bitOf (w ⊕ 2 ^ x) n * F n ≡ xorBits F (suc n) w ⊕ F x) (sym e)
-      (ap₂ (λ (x y : ℕ). x ⊕ y * F n) (xor-above n w n (omega arith)) (flip-at w n) ∙ turned (xorBits F n w) (F n) (bitOf w n) (bit-lt w n)))
+      (ap₂ (λ (x y : ℕ). x ⊕ y * F n) (xor-above n w n (omega arith)) (flip-at w n)
+      ∙ turned (xorBits F n w) (F n) (bitOf w n) (bit-lt w n)))
       (λ (l : j < n).
       ap₂ (λ (x y : ℕ). x ⊕ y * F n) (xor-flip n w j l) (flip-other w j n (λ e. omega arith))
       ∙ xor-right-comm (xorBits F n w) (F j) (bitOf w n * F n))
@@ -80,7 +81,14 @@ module _ (F : ℕ → ℕ) where
   sum-le c zero w h = omega arith
   sum-le c (suc n) w h =
       rw mul-suc
-      (omega (arith, sum-le c n w (λ i l. h i (omega arith)), h n (omega arith), one-mul (F n), mul-le-mul-right {m = bitOf w n} {n = 1} (F n) (omega (arith, bit-lt w n))))
+      (omega (
+        arith,
+        sum-le c n w (λ i l. h i (omega arith)),
+        h n (omega arith),
+        one-mul (F n),
+        mul-le-mul-right {m = bitOf w n} {n = 1}
+            (F n) (omega (arith, bit-lt w n)),
+      ))
 
 -- rank i stands at position O i
 module _ (O : ℕ → ℕ) where

@@ -9,7 +9,8 @@ use Rattle.field.proofs.TotalLaws.{total-head, total-plus}
 use Rattle.field.proofs.FieldLaws.{laws}
 use Rattle.search.specs.Search.{patterns}
 use Rattle.search.specs.Pattern.{choose}
-use Rattle.search.specs.Claims.{PatternsAreCounted, PatternsAreBinomials, EveryCandidateHasOnePattern, BinaryPatternsAreCandidates, BestIsNearest, CandidatesAreCounted, NothingIsMissed}
+use Rattle.search.specs.Claims.{PatternsAreCounted, PatternsAreBinomials, EveryCandidateHasOnePattern, BinaryPatternsAreCandidates}
+use Rattle.search.specs.Claims.{BestIsNearest, CandidatesAreCounted, NothingIsMissed}
 use Rattle.search.proofs.BestIsNearest.{search-counts, search-nearest, search-distance, search-flips, search-finds}
 use Rattle.search.proofs.PatternsCounted.{patterns-listed}
 use Rattle.search.proofs.OnePatternEach.{binary-candidate, candidate-pattern, pattern-one}
@@ -43,11 +44,18 @@ module _ (m b r tau : ℕ) (soft : List ℤ) (R : ℕ → ℕ) where
   pub every-candidate-has-one-pattern : EveryCandidateHasOnePattern m b r tau soft R
   every-candidate-has-one-pattern c w h =
       let F = laws m (c .m-low) (c .m-high) in
-      let u = candidate-pattern m b r soft R (c .sorted) (c .fit) F (c .first) tau w h in
-      (u .0, u .1, u .2, u .3, λ g p t e. pattern-one m b r soft R (c .sorted) (c .fit) F (c .first) tau g (u .0) p (u .1) t (u .2) (e ∙ sym (u .3)))
+      let u = candidate-pattern m b r soft R (c .sorted) (c .fit) F (c .first) tau w h in (
+        u .0,
+        u .1,
+        u .2,
+        u .3,
+        λ g p t e. pattern-one m b r soft R (c .sorted) (c .fit) F (c .first) tau g (u .0) p (u .1) t (u .2)
+            (e ∙ sym (u .3)),
+      )
 
   pub binary-patterns-are-candidates : BinaryPatternsAreCandidates m b r tau soft R
-  binary-patterns-are-candidates c f p t = binary-candidate m b r soft R (c .sorted) (c .fit) (laws m (c .m-low) (c .m-high)) (c .first) tau f p t
+  binary-patterns-are-candidates c f p t =
+      binary-candidate m b r soft R (c .sorted) (c .fit) (laws m (c .m-low) (c .m-high)) (c .first) tau f p t
 
   pub best-is-nearest : BestIsNearest m b r tau soft R
   best-is-nearest c t =

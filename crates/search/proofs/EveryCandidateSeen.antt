@@ -18,14 +18,13 @@ use Rattle.field.specs.Field.{_⊕_, lengthOf}
 use Rattle.field.specs.Laws.{Laws}
 use Rattle.field.proofs.TestLaws.{below, ne→not, not-eqb, all-of}
 use Rattle.field.proofs.TotalLaws.{only-yes, only-no}
-use Rattle.codes.specs.Word.{bitOf}
-use Rattle.codes.specs.Codeword.{RootsFrom}
+use Rattle.codes.specs.Codeword.{bitOf, RootsFrom}
 use Rattle.codes.specs.Lagrange.{AllPlaces, lagrange}
 use Rattle.codes.proofs.WordLaws.{bit-lt, flip-other, flip-same}
 use Rattle.codes.proofs.LagrangeLaws.{lagrange-at}
 use Rattle.codes.proofs.PlacesFixWord.{fits→binary, binary→fits}
 use Rattle.codes.proofs.Conjugates.{bit-elem}
-use Rattle.search.specs.Candidate.{Member, NoRepeats}
+use Rattle.soft.specs.Candidate.{Member, NoRepeats}
 use Rattle.search.specs.Search.{symbol, binary, completed}
 
 -- two bits that differ from a third are equal
@@ -78,9 +77,11 @@ module _ (R : ℕ → ℕ) where
     seen (suc k) i (suc may) v acc = seen k (suc i) may (v ⊕ 2 ^ R i) (seen k (suc i) (suc may) v acc)
 
     -- a step back: one rank more is before
-    agrees-more : (i v c : ℕ) → ((j : ℕ) → j < i → bitOf c (R j) ≡ bitOf v (R j)) → bitOf c (R i) ≡ bitOf v (R i) → (j : ℕ) → j < suc i → bitOf c (R j) ≡ bitOf v (R j)
+    agrees-more : (i v c : ℕ) → ((j : ℕ) → j < i → bitOf c (R j) ≡ bitOf v (R j)) → bitOf c (R i) ≡ bitOf v (R i) → (j : ℕ) → j < suc i
+        → bitOf c (R j) ≡ bitOf v (R j)
     agrees-more i v c h e j l =
-        ⊎-elim (λ q. ap (λ (x : ℕ). bitOf c (R x)) q ∙ e ∙ ap (λ (x : ℕ). bitOf v (R x)) (sym q)) (λ q. h j q) (eq-or-lt-of-le (le-of-suc-le-suc l))
+        ⊎-elim (λ q. ap (λ (x : ℕ). bitOf c (R x)) q ∙ e ∙ ap (λ (x : ℕ). bitOf v (R x)) (sym q)) (λ q. h j q)
+        (eq-or-lt-of-le (le-of-suc-le-suc l))
 
     kept→ : (k i may v c : ℕ) → Reached k (suc i) may v c → Reached (suc k) i may v c
     unfolding apartFrom
@@ -108,13 +109,21 @@ module _ (R : ℕ → ℕ) where
       flip-far : (i j v : ℕ) → i < K → j < K → i ≢ j → bitOf (v ⊕ 2 ^ R i) (R j) ≡ bitOf v (R j)
       flip-far i j v hi hj n = flip-other v (R i) (R j) (far i j hi hj n)
 
-      flipped→ : (k i may v c : ℕ) → i + suc k ≡ K → Reached k (suc i) may (v ⊕ 2 ^ R i) c → Reached (suc k) i (suc may) v c × (bitOf c (R i) ≢ bitOf v (R i))
+      flipped→ : (k i may v c : ℕ) → i + suc k ≡ K → Reached k (suc i) may (v ⊕ 2 ^ R i) c
+          → Reached (suc k) i (suc may) v c × (bitOf c (R i) ≢ bitOf v (R i))
       unfolding apartFrom
       flipped→ k i may v c q h = (
         record {
           codeword = h .codeword;
           agrees = λ j l. h .agrees j (omega arith) ∙ flip-far i j v (omega arith) (omega arith) (omega arith);
-          few = omega (arith, apart-other i v c off, h .few, apart-cong k (suc i) (v ⊕ 2 ^ R i) v c (λ j a l. flip-far i j v (omega arith) (omega arith) (omega arith)));
+          few =
+              omega (
+                arith,
+                apart-other i v c off,
+                h .few,
+                apart-cong k (suc i) (v ⊕ 2 ^ R i) v c
+                    (λ j a l. flip-far i j v (omega arith) (omega arith) (omega arith)),
+              );
         },
         off,
       )
@@ -122,23 +131,35 @@ module _ (R : ℕ → ℕ) where
           off : bitOf c (R i) ≢ bitOf v (R i)
           off e = flip-same v (R i) (sym (h .agrees i (omega arith)) ∙ e)
 
-      flipped← : (k i may v c : ℕ) → i + suc k ≡ K → bitOf c (R i) ≢ bitOf v (R i) → Reached (suc k) i (suc may) v c → Reached k (suc i) may (v ⊕ 2 ^ R i) c
+      flipped← : (k i may v c : ℕ) → i + suc k ≡ K → bitOf c (R i) ≢ bitOf v (R i) → Reached (suc k) i (suc may) v c
+          → Reached k (suc i) may (v ⊕ 2 ^ R i) c
       unfolding apartFrom
       flipped← k i may v c q n h = record {
         codeword = h .codeword;
         agrees = agrees-more i (v ⊕ 2 ^ R i) c (λ j l. h .agrees j l ∙ sym (flip-far i j v (omega arith) (omega arith) (omega arith)))
-            (third (bitOf c (R i)) (bitOf (v ⊕ 2 ^ R i) (R i)) (bitOf v (R i)) (bit-lt c (R i)) (bit-lt (v ⊕ 2 ^ R i) (R i)) (bit-lt v (R i)) n (flip-same v (R i)));
-        few = omega (arith, apart-other i v c n, h .few, apart-cong k (suc i) (v ⊕ 2 ^ R i) v c (λ j a l. flip-far i j v (omega arith) (omega arith) (omega arith)));
+            (third (bitOf c (R i)) (bitOf (v ⊕ 2 ^ R i) (R i)) (bitOf v (R i)) (bit-lt c (R i)) (bit-lt (v ⊕ 2 ^ R i) (R i))
+            (bit-lt v (R i)) n (flip-same v (R i)));
+        few =
+            omega (
+              arith,
+              apart-other i v c n,
+              h .few,
+              apart-cong k (suc i) (v ⊕ 2 ^ R i) v c
+                  (λ j a l. flip-far i j v (omega arith) (omega arith) (omega arith)),
+            );
       }
 
       -- a codeword is what its bits on the reliable ranks complete to, and what they complete to is a codeword
-      pub leaf← : (v c : ℕ) → RootsFrom m b r c → ((j : ℕ) → j < K → bitOf c (R j) ≡ bitOf v (R j)) → T (binary m b r R v) × (c ≡ completed m b r R v)
+      pub leaf← : (v c : ℕ) → RootsFrom m b r c → ((j : ℕ) → j < K → bitOf c (R j) ≡ bitOf v (R j))
+          → T (binary m b r R v) × (c ≡ completed m b r R v)
       unfolding binary completed symbol
       leaf← v c w h =
-          let t = fits→binary m F b (1 - b) (omega arith) R K r (λ j. bitOf v (R j)) ord (omega arith) (λ j _. bit-elem m F v (R j)) c (w .bits, w .roots, h) in
+          let t = fits→binary m F b (1 - b) (omega arith) R K r (λ j. bitOf v (R j)) ord (omega arith) (λ j _. bit-elem m F v (R j)) c
+          (w .bits, w .roots, h) in
           (all-of r _ (λ i l. lt→ltb _ 2 (t .0 (R (K + i)) (ord .places .inside (K + i) (omega arith)))), t .1)
 
-      pub leaf→ : (v : ℕ) → T (binary m b r R v) → RootsFrom m b r (completed m b r R v) × ((j : ℕ) → j < K → bitOf (completed m b r R v) (R j) ≡ bitOf v (R j))
+      pub leaf→ : (v : ℕ) → T (binary m b r R v)
+          → RootsFrom m b r (completed m b r R v) × ((j : ℕ) → j < K → bitOf (completed m b r R v) (R j) ≡ bitOf v (R j))
       unfolding binary completed symbol
       leaf→ v t =
           let u = binary→fits m F b (1 - b) (omega arith) R K r (λ j. bitOf v (R j)) ord (omega arith) (λ j _. bit-elem m F v (R j)) two in
@@ -152,7 +173,11 @@ module _ (R : ℕ → ℕ) where
               subst (λ (x : ℕ). lagrange m (1 - b) R K (λ j. bitOf v (R j)) x < 2) (sym (a .2))
               (by-cases (decLt j K)
               (λ l. subst (λ (x : ℕ). x < 2) (sym (lagrange-at m F (1 - b) R K (λ j. bitOf v (R j))
-              (record { inside = λ j l. ord .places .inside j (omega arith); apart = λ i j hi hj. ord .places .apart i j (omega arith) (omega arith) })
+              (record {
+                inside = λ j l. ord .places .inside j (omega arith);
+                apart = λ i j hi hj. ord .places .apart i j (omega arith)
+                    (omega arith);
+              })
               (λ j _. bit-elem m F v (R j)) j l)) (bit-lt v (R j)))
               (λ nl. let e : K + (j - K) ≡ j = omega arith in
               subst (λ (x : ℕ). lagrange m (1 - b) R K (λ j. bitOf v (R j)) (R x) < 2) e
@@ -178,7 +203,8 @@ module _ (R : ℕ → ℕ) where
       unfolding seen apartFrom
       seen→ zero i may v acc q c h =
           ⊎-elim inl (λ t. let u = leaf→ v (t .0) in
-          inr (subst (λ (x : ℕ). Reached zero i may v x) (sym (t .1)) (record { codeword = u .0; agrees = λ j l. u .1 j (omega arith); few = omega arith })))
+          inr (subst (λ (x : ℕ). Reached zero i may v x) (sym (t .1))
+          (record { codeword = u .0; agrees = λ j l. u .1 j (omega arith); few = omega arith })))
           (added→ (binary m b r R v) (completed m b r R v) c acc h)
       seen→ (suc k) i zero v acc q c h = ⊎-elim inl (λ t. inr (kept→ k i zero v c t)) (seen→ k (suc i) zero v acc (omega arith) c h)
       seen→ (suc k) i (suc may) v acc q c h =
@@ -190,9 +216,11 @@ module _ (R : ℕ → ℕ) where
       pub seen← : (k i may v : ℕ) (acc : List ℕ) → i + k ≡ K → (c : ℕ) → Member c acc ⊎ Reached k i may v c → Member c (seen k i may v acc)
       unfolding seen apartFrom
       seen← zero i may v acc q c h =
-          added← (binary m b r R v) (completed m b r R v) c acc (⊎-elim inl (λ t. inr (leaf← v c (t .codeword) (λ j l. t .agrees j (omega arith)))) h)
+          added← (binary m b r R v) (completed m b r R v) c acc
+          (⊎-elim inl (λ t. inr (leaf← v c (t .codeword) (λ j l. t .agrees j (omega arith)))) h)
       seen← (suc k) i zero v acc q c h =
-          seen← k (suc i) zero v acc (omega arith) c (⊎-elim inl (λ t. inr (kept← k i zero v c (by-cases (ℕ-discrete (bitOf c (R i)) (bitOf v (R i))) (λ e. e)
+          seen← k (suc i) zero v acc (omega arith) c
+          (⊎-elim inl (λ t. inr (kept← k i zero v c (by-cases (ℕ-discrete (bitOf c (R i)) (bitOf v (R i))) (λ e. e)
           (λ n. absurd (omega (arith, apart-other i v c n, t .few)))) t)) h)
       seen← (suc k) i (suc may) v acc q c h =
           seen← k (suc i) may (v ⊕ 2 ^ R i) (seen k (suc i) (suc may) v acc) (omega arith) c
@@ -202,11 +230,13 @@ module _ (R : ℕ → ℕ) where
           (λ n. inr (flipped← k i may v c q n t))) h)
 
       -- and each word once
-      pub seen-once : (k i may v : ℕ) (acc : List ℕ) → i + k ≡ K → NoRepeats acc → ((c : ℕ) → Reached k i may v c → Member c acc → ⊥) → NoRepeats (seen k i may v acc)
+      pub seen-once : (k i may v : ℕ) (acc : List ℕ) → i + k ≡ K → NoRepeats acc → ((c : ℕ) → Reached k i may v c → Member c acc → ⊥)
+          → NoRepeats (seen k i may v acc)
       unfolding seen apartFrom
       seen-once zero i may v acc q o d =
           added-once (binary m b r R v) (completed m b r R v) acc o
-          (λ t. let u = leaf→ v t in d (completed m b r R v) (record { codeword = u .0; agrees = λ j l. u .1 j (omega arith); few = omega arith }))
+          (λ t. let u = leaf→ v t in d (completed m b r R v)
+          (record { codeword = u .0; agrees = λ j l. u .1 j (omega arith); few = omega arith }))
       seen-once (suc k) i zero v acc q o d = seen-once k (suc i) zero v acc (omega arith) o (λ c h. d c (kept→ k i zero v c h))
       seen-once (suc k) i (suc may) v acc q o d =
           seen-once k (suc i) may (v ⊕ 2 ^ R i) (seen k (suc i) (suc may) v acc) (omega arith)

@@ -1,4 +1,3 @@
-pub mod CountLaws
 pub mod PositionLaws
 pub mod SearchSteps
 pub mod SymbolLaws

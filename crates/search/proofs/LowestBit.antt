@@ -9,7 +9,7 @@ use lib.Count.{trailingZeros, under}
 use lib.Pow.{pow-mono}
 use lib.Bits.{bitAnd, and-step, xor-step, and-self, and-le-r, xor-zero-r}
 use Rattle.field.specs.Field.{_⊕_}
-use Rattle.codes.specs.Word.{bitOf}
+use Rattle.codes.specs.Codeword.{bitOf}
 use Rattle.codes.proofs.WordLaws.{bit-high, half-lt}
 use Rattle.search.specs.ByRank.{xorBits, sumBits}
 use Rattle.search.proofs.BitSumLaws.{xor-flip, sum-off}
@@ -56,7 +56,8 @@ lowest-clear (suc k) g p h = clear-step (g % 2) (trailingZeros k (g / 2)) g refl
 -- a set bit of a word of n digits is one of them
 set-low : (n g j : ℕ) → g < 2 ^ n → bitOf g j ≡ 1 → j < n
 set-low n g j h e =
-    ⊎-elim (λ (z : n - j ≡ 0). absurd (omega (arith, bit-high g n j h (omega arith)))) (λ (l : 0 < n - j). omega arith) (eq-zero-or-pos (n - j))
+    ⊎-elim (λ (z : n - j ≡ 0). absurd (omega (arith, bit-high g n j h (omega arith)))) (λ (l : 0 < n - j). omega arith)
+    (eq-zero-or-pos (n - j))
 
 -- fewer bits are left
 pub turn-less : (g : ℕ) → 0 < g → bitAnd g (g - 1) < g

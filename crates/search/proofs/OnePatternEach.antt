@@ -11,12 +11,12 @@ use Rattle.field.specs.Field.{_⊕_, lengthOf}
 use Rattle.field.specs.Laws.{Laws}
 use Rattle.field.proofs.TotalLaws.{total-cong}
 use Rattle.field.proofs.XorLaws.{xor-self-left, xor-lt}
-use Rattle.codes.specs.Word.{bitOf, wordOf}
+use Rattle.codes.specs.Codeword.{bitOf, wordOf}
 use Rattle.codes.proofs.WordLaws.{bit-lt, bit-xor, bit-ext, bit-word, word-lt}
 use Rattle.soft.specs.Value.{hard}
-use Rattle.soft.specs.Order.{Sorted}
+use Rattle.soft.specs.Sorted.{Sorted}
 use Rattle.soft.specs.Distance.{reliableFlips}
-use Rattle.search.specs.Candidate.{Candidate}
+use Rattle.soft.specs.Candidate.{Candidate}
 use Rattle.search.specs.Search.{binary, completed}
 use Rattle.search.specs.ByRank.{sumBits}
 use Rattle.search.specs.Pattern.{Pattern, flippedBy}
@@ -42,14 +42,16 @@ module _ (m b r : ℕ) (soft : List ℤ) (R : ℕ → ℕ) (S : Sorted m soft R)
   by-bit : (f j : ℕ) → j < K → bitOf (by f) (R j) ≡ bitOf received (R j) ⊕ bitOf f j
   unfolding flippedBy
   by-bit f j l =
-      bit-xor received _ (R j) ∙ ap (λ (u : ℕ). bitOf received (R j) ⊕ u) (spread-at R K f (λ i j a c. S .order .places .apart i j (omega arith) (omega arith)) j l)
+      bit-xor received _ (R j) ∙ ap (λ (u : ℕ). bitOf received (R j) ⊕ u)
+      (spread-at R K f (λ i j a c. S .order .places .apart i j (omega arith) (omega arith)) j l)
 
   -- a word that agrees with a pattern on the reliable ranks differs from the hard decisions as often as the pattern flips
   flips-of : (f c : ℕ) → ((j : ℕ) → j < K → bitOf c (R j) ≡ bitOf (by f) (R j)) → reliableFlips m r soft c ≡ sumBits (λ j. 1) K f
   flips-of f c h =
       sym (flips-by-rank m b r soft R S fit c) ∙ apart-total R K 0 received c
       ∙ total-cong K _ _ (λ j l. let e : 0 + j ≡ j = omega arith in ap (λ (x : ℕ). apart R x received c) e
-      ∙ ap (λ (u : ℕ). only (not (eqb u (bitOf received (R j)))) 1) (h j l ∙ by-bit f j l) ∙ apart-by (bitOf received (R j)) (bitOf f j) 1 (bit-lt f j))
+      ∙ ap (λ (u : ℕ). only (not (eqb u (bitOf received (R j)))) 1) (h j l ∙ by-bit f j l)
+      ∙ apart-by (bitOf received (R j)) (bitOf f j) 1 (bit-lt f j))
       ∙ sym (sum-bits-total (λ j. 1) K f)
 
   pub binary-candidate : (tau f : ℕ) → Pattern m r tau f → T (binary m b r R (by f)) → Candidate m b r tau soft (completed m b r R (by f))
@@ -67,7 +69,8 @@ module _ (m b r : ℕ) (soft : List ℤ) (R : ℕ → ℕ) (S : Sorted m soft R)
   set-agrees : (c j : ℕ) → j < K → bitOf c (R j) ≡ bitOf (by (flips-set c)) (R j)
   unfolding flips-set
   set-agrees c j l =
-      sym (by-bit (flips-set c) j l ∙ ap (λ (u : ℕ). bitOf received (R j) ⊕ u) (bit-word K (λ j. bitOf received (R j) ⊕ bitOf c (R j)) (set-two c) j l)
+      sym (by-bit (flips-set c) j l ∙ ap (λ (u : ℕ). bitOf received (R j) ⊕ u)
+      (bit-word K (λ j. bitOf received (R j) ⊕ bitOf c (R j)) (set-two c) j l)
       ∙ xor-self-left (bitOf received (R j)) (bitOf c (R j)))
 
   set-low : (c : ℕ) → flips-set c < 2 ^ K
@@ -77,15 +80,20 @@ module _ (m b r : ℕ) (soft : List ℤ) (R : ℕ → ℕ) (S : Sorted m soft R)
   pub candidate-pattern : (tau c : ℕ) → Candidate m b r tau soft c
       → (f : ℕ) × Pattern m r tau f × T (binary m b r R (by f)) × (completed m b r R (by f) ≡ c)
   candidate-pattern tau c h =
-      let u = leaf← R m b r F first (S .order) fit (by (flips-set c)) c (h .codeword) (set-agrees c) in
-      (flips-set c, record { ranks = set-low c; few = subst (λ (x : ℕ). x ≤ tau) (flips-of (flips-set c) c (set-agrees c)) (h .near) }, u .0, sym (u .1))
+      let u = leaf← R m b r F first (S .order) fit (by (flips-set c)) c (h .codeword) (set-agrees c) in (
+        flips-set c,
+        record { ranks = set-low c; few = subst (λ (x : ℕ). x ≤ tau) (flips-of (flips-set c) c (set-agrees c)) (h .near) },
+        u .0,
+        sym (u .1),
+      )
 
   -- two patterns that complete to one word are one
   pub pattern-one : (tau f g : ℕ) → Pattern m r tau f → Pattern m r tau g → T (binary m b r R (by f)) → T (binary m b r R (by g))
       → completed m b r R (by f) ≡ completed m b r R (by g) → f ≡ g
   pattern-one tau f g hf hg tf tg e =
       bit-ext f g K (hf .ranks) (hg .ranks) (λ j l.
-      sym (xor-self-left (bitOf received (R j)) (bitOf f j)) ∙ ap (λ (u : ℕ). bitOf received (R j) ⊕ u) (same j l) ∙ xor-self-left (bitOf received (R j)) (bitOf g j))
+      sym (xor-self-left (bitOf received (R j)) (bitOf f j)) ∙ ap (λ (u : ℕ). bitOf received (R j) ⊕ u) (same j l)
+      ∙ xor-self-left (bitOf received (R j)) (bitOf g j))
     where
       same : (j : ℕ) → j < K → bitOf received (R j) ⊕ bitOf f j ≡ bitOf received (R j) ⊕ bitOf g j
       same j l =

@@ -11,7 +11,7 @@ use lib.ListN.{length}
 use lib.Pow.{shr-shr}
 use Rattle.field.specs.Field.{lengthOf}
 use Rattle.codes.proofs.WordLaws.{bit-shift, below-div}
-use Rattle.search.specs.Candidate.{Member, NoRepeats}
+use Rattle.soft.specs.Candidate.{Member, NoRepeats}
 use Rattle.search.specs.Search.{patterns}
 use Rattle.search.specs.ByRank.{sumBits}
 use Rattle.search.specs.Pattern.{Pattern}
@@ -67,7 +67,8 @@ listed→ zero may a acc g (inl e) = inr (low-end may a g .1 e)
 listed→ zero may a acc g (inr h) = inl h
 listed→ (suc k) zero a acc g h = ⊎-elim inl (λ l. inr (low-kept k zero a g l)) (listed→ k zero (a * 2) acc g h)
 listed→ (suc k) (suc may) a acc g h =
-    ⊎-elim (λ x. ⊎-elim inl (λ l. inr (low-kept k (suc may) a g l)) (listed→ k (suc may) (a * 2) acc g x)) (λ l. inr (low-flipped k may a g l))
+    ⊎-elim (λ x. ⊎-elim inl (λ l. inr (low-kept k (suc may) a g l)) (listed→ k (suc may) (a * 2) acc g x))
+    (λ l. inr (low-flipped k may a g l))
     (listed→ k may (a * 2 + 1) (listed k (suc may) (a * 2) acc) g h)
 
 listed← : (k may a : ℕ) (acc : List ℕ) (g : ℕ) → Member g acc ⊎ Low k may a g → Member g (listed k may a acc)
@@ -85,7 +86,8 @@ unfolding listed
 listed-once zero may a acc o d = (d a (low-end may a a .1 refl), o)
 listed-once (suc k) zero a acc o d = listed-once k zero (a * 2) acc o (λ g l. d g (low-kept k zero a g l))
 listed-once (suc k) (suc may) a acc o d =
-    listed-once k may (a * 2 + 1) (listed k (suc may) (a * 2) acc) (listed-once k (suc may) (a * 2) acc o (λ g l. d g (low-kept k (suc may) a g l)))
+    listed-once k may (a * 2 + 1) (listed k (suc may) (a * 2) acc)
+    (listed-once k (suc may) (a * 2) acc o (λ g l. d g (low-kept k (suc may) a g l)))
     (λ g l x. ⊎-elim (λ y. d g (low-flipped k may a g l) y) (λ y. omega (arith, l .above, y .above)) (listed→ k (suc may) (a * 2) acc g x))
 
 listed-length : (k may a : ℕ) (acc : List ℕ) → length (listed k may a acc) ≡ patterns k may + length acc

@@ -14,7 +14,8 @@ use Rattle.field.specs.Field.{lengthOf}
 use Rattle.field.proofs.TestLaws.{eq→eqb, last-passes}
 use Rattle.field.proofs.TotalLaws.{only-le, only-yes, only-no, total-lt, total-ones}
 use Rattle.codes.proofs.Pigeon.{pigeon, ordered}
-use Rattle.soft.specs.Order.{before, rankOf, Sorted}
+use Rattle.soft.specs.Order.{before, rankOf}
+use Rattle.soft.specs.Sorted.{Sorted}
 use Rattle.soft.proofs.OrderLaws.{before-not-self, before-one, before-trans}
 use Rattle.search.specs.Positions.{positionAt, listed, positions}
 
@@ -58,7 +59,12 @@ module _ (m : ℕ) (soft : List ℤ) where
 
   pub positions-sorted : Sorted m soft R
   positions-sorted = record {
-    order = ordered m R (record { inside = λ j l. placed j l .0; apart = λ i j hi hj e. sym (placed i hi .1) ∙ ap (rankOf m soft) e ∙ placed j hj .1 });
+    order =
+        ordered m R (record {
+          inside = λ j l. placed j l .0;
+          apart = λ i j hi hj e. sym (placed i hi .1) ∙ ap (rankOf m soft) e
+              ∙ placed j hj .1;
+        });
     rises = λ i j l hj. let a = placed i (omega arith) in let c = placed j hj in
         ⊎-elim (λ h. h) (λ h. absurd (let k = rank-rises (R j) (R i) (c .0) h in omega (arith, a .1, c .1)))
         (before-one soft (R i) (R j) (λ e. let q = ap (rankOf m soft) e in omega (arith, a .1, c .1)));

@@ -9,15 +9,17 @@ use lib.Pow.{pow-pos, pow-mono}
 use Rattle.field.specs.Below.{total}
 use Rattle.field.specs.Field.{_⊕_, xorSum}
 use Rattle.field.proofs.XorLaws.{xor-zero, zero-xor, xor-lt}
-use Rattle.codes.specs.Word.{bitOf}
+use Rattle.codes.specs.Codeword.{bitOf}
 use Rattle.codes.proofs.WordLaws.{bit-lt, bit-xor, bit-zero, bit-high, bit-double, bit-double-zero, bit-power-same, bit-power-other}
 use Rattle.search.specs.ByRank.{xorBits, sumBits, outside}
 use Rattle.search.proofs.BitSumLaws.{spread-off}
 
 -- a bit times a word
 pub bit-scaled : (x w p : ℕ) → x < 2 → bitOf (x * w) p ≡ x * bitOf w p
-bit-scaled zero w p h = let e : 0 * w ≡ 0 = omega arith in let z : 0 * bitOf w p ≡ 0 = omega arith in ap (λ (u : ℕ). bitOf u p) e ∙ bit-zero p ∙ sym z
-bit-scaled (suc zero) w p h = let e : 1 * w ≡ w = omega arith in let z : 1 * bitOf w p ≡ bitOf w p = omega arith in ap (λ (u : ℕ). bitOf u p) e ∙ sym z
+bit-scaled zero w p h =
+    let e : 0 * w ≡ 0 = omega arith in let z : 0 * bitOf w p ≡ 0 = omega arith in ap (λ (u : ℕ). bitOf u p) e ∙ bit-zero p ∙ sym z
+bit-scaled (suc zero) w p h =
+    let e : 1 * w ≡ w = omega arith in let z : 1 * bitOf w p ≡ bitOf w p = omega arith in ap (λ (u : ℕ). bitOf u p) e ∙ sym z
 bit-scaled (suc (suc x)) w p h = absurd (omega arith)
 
 scaled-lt : (x w k : ℕ) → x < 2 → w < 2 ^ k → x * w < 2 ^ k
@@ -32,7 +34,8 @@ doubled x k = ap (λ (u : ℕ). x * u) (pow-suc 2 k) ∙ sym (mul-assoc x (2 ^ k
 pub bit-moved-low : (k x p : ℕ) → p < k → bitOf (x * 2 ^ k) p ≡ 0
 bit-moved-low zero x p h = absurd (omega arith)
 bit-moved-low (suc k) x zero h = ap (λ (u : ℕ). bitOf u 0) (doubled x k) ∙ bit-double-zero (x * 2 ^ k)
-bit-moved-low (suc k) x (suc p) h = ap (λ (u : ℕ). bitOf u (suc p)) (doubled x k) ∙ bit-double (x * 2 ^ k) p ∙ bit-moved-low k x p (omega arith)
+bit-moved-low (suc k) x (suc p) h =
+    ap (λ (u : ℕ). bitOf u (suc p)) (doubled x k) ∙ bit-double (x * 2 ^ k) p ∙ bit-moved-low k x p (omega arith)
 
 pub bit-moved : (k x q : ℕ) → bitOf (x * 2 ^ k) (k + q) ≡ bitOf x q
 bit-moved zero x q = let e : x * 2 ^ 0 ≡ x = omega arith in let f : 0 + q ≡ q = omega arith in ap₂ bitOf e f
@@ -54,7 +57,8 @@ module _ (S : ℕ → ℕ) where
       bit-xor (outside S n) (S n * 2 ^ n) q ∙ ap (λ (u : ℕ). bitOf (outside S n) q ⊕ u) (bit-scaled (S n) (2 ^ n) q (h n (omega arith)))
       ∙ ⊎-elim
       (λ e. subst (λ (x : ℕ). bitOf (outside S n) x ⊕ S n * bitOf (2 ^ n) x ≡ S x) (sym e)
-      (ap₂ (λ (u v : ℕ). u ⊕ S n * v) (bit-high (outside S n) n n (outside-lt n (λ q l. h q (omega arith))) (omega arith)) (bit-power-same n)
+      (ap₂ (λ (u v : ℕ). u ⊕ S n * v) (bit-high (outside S n) n n (outside-lt n (λ q l. h q (omega arith))) (omega arith))
+      (bit-power-same n)
       ∙ zero-xor (S n * 1) ∙ omega arith))
       (λ k. ap₂ (λ (u v : ℕ). u ⊕ S n * v) (outside-bit n (λ q l. h q (omega arith)) q k) (bit-power-other n q (λ e. omega arith))
       ∙ (let z : S n * 0 ≡ 0 = omega arith in ap (λ (u : ℕ). S q ⊕ u) z) ∙ xor-zero (S q))

@@ -18,7 +18,7 @@ use Rattle.field.proofs.TotalLaws.{only-yes, only-no, total-cong}
 use Rattle.field.proofs.XorLaws.{xor-zero, zero-xor, xor-self, xor-assoc, xor-comm, xor-lt}
 use Rattle.field.proofs.XorSumLaws.{xorsum-cong, xorsum-xor}
 use Rattle.field.proofs.RingLaws.{xor-over}
-use Rattle.codes.specs.Word.{bitOf, wordOf}
+use Rattle.codes.specs.Codeword.{bitOf, wordOf}
 use Rattle.codes.specs.Lagrange.{AllPlaces, cell, lagrange}
 use Rattle.codes.proofs.WordLaws.{bit-lt, bit-xor, bit-high, bit-ext, bit-word, word-lt}
 use Rattle.soft.specs.Value.{hard, reliability}
@@ -27,7 +27,8 @@ use Rattle.soft.proofs.OrderLaws.{in-order}
 use Rattle.search.specs.Best.{Best, none, better}
 use Rattle.search.specs.Search.{weighed, bestOver, symbol, binary, completed, seeIf, seePattern, searched}
 use Rattle.search.specs.Plan.{Plan, Prepares}
-use Rattle.search.specs.ByRank.{xorBits, sumBits, rankSymbol, rankBinary, outside, differing, rankWeighed, seenIf, tried, rankSearched}
+use Rattle.search.specs.ByRank.{xorBits, sumBits, rankSymbol, rankBinary, outside, differing, rankWeighed, seenIf, tried}
+use Rattle.search.specs.ByRank.{rankSearched}
 use Rattle.search.proofs.SearchSteps.{search-same}
 use Rattle.search.proofs.SymbolLaws.{cell-lt, bit-product, kept}
 use Rattle.search.proofs.BestIsNearest.{hard-lt}
@@ -38,7 +39,9 @@ use Rattle.search.proofs.RankBits.{bit-moved-low, bit-moved, outside-bi
 pub apart-by : (h x w : ℕ) → x < 2 → only (not (eqb (h ⊕ x) h)) w ≡ x * w
 apart-by h zero w l = only-no (not (eqb (h ⊕ 0) h)) w (λ t. not-eqb (h ⊕ 0) h t (xor-zero h)) ∙ omega arith
 apart-by h (suc zero) w l =
-    only-yes (not (eqb (h ⊕ 1) h)) w (ne→not (h ⊕ 1) h (λ e. let z : _≡_ {A = ℕ} 1 0 = sym (zero-xor 1) ∙ ap (λ (u : ℕ). u ⊕ 1) (sym (xor-self h)) ∙ xor-assoc h h 1 ∙ ap (λ (u : ℕ). h ⊕ u) e ∙ xor-self h in omega arith))
+    only-yes (not (eqb (h ⊕ 1) h)) w
+    (ne→not (h ⊕ 1) h (λ e. let z : _≡_ {A = ℕ} 1 0 = sym (zero-xor 1) ∙ ap (λ (u : ℕ). u ⊕ 1) (sym (xor-self h)) ∙ xor-assoc h h 1
+    ∙ ap (λ (u : ℕ). h ⊕ u) e ∙ xor-self h in omega arith))
     ∙ omega arith
 apart-by h (suc (suc x)) w l = absurd (omega arith)
 
@@ -59,7 +62,8 @@ module _ (m b r : ℕ) (soft : List ℤ) (p : Plan) (P : Prepares m b r soft p) 
   apart = all-places .places .apart
 
   hard-bit : (i : ℕ) → i < n → bitOf (p .hards) (R i) ≡ hard soft (R i)
-  hard-bit i l = ap (λ (u : ℕ). bitOf u (R i)) (P .hards) ∙ bit-word n (hard soft) (λ q _. hard-lt soft q) (R i) (all-places .places .inside i l)
+  hard-bit i l =
+      ap (λ (u : ℕ). bitOf u (R i)) (P .hards) ∙ bit-word n (hard soft) (λ q _. hard-lt soft q) (R i) (all-places .places .inside i l)
 
   hards-lt : p .hards < 2 ^ n
   hards-lt = subst (λ (u : ℕ). u < 2 ^ n) (sym (P .hards)) (word-lt n (hard soft) (λ q _. hard-lt soft q))
@@ -77,7 +81,9 @@ module _ (m b r : ℕ) (soft : List ℤ) (p : Plan) (P : Prepares m b r soft p) 
 
   flipped-more : (v f i : ℕ) → i < K → Flipped v f → Flipped (v ⊕ 2 ^ R i) (f ⊕ 2 ^ i)
   flipped-more v f i l h = record {
-    word = ap (λ (u : ℕ). u ⊕ 2 ^ R i) (h .word) ∙ xor-assoc (p .hards) _ (2 ^ R i) ∙ ap (λ (u : ℕ). p .hards ⊕ u) (sym (xor-flip (λ i. 2 ^ R i) K f i l));
+    word =
+        ap (λ (u : ℕ). u ⊕ 2 ^ R i) (h .word) ∙ xor-assoc (p .hards) _ (2 ^ R i)
+        ∙ ap (λ (u : ℕ). p .hards ⊕ u) (sym (xor-flip (λ i. 2 ^ R i) K f i l));
     low = xor-lt K f (2 ^ i) (h .low) (pow-lt l);
   }
 
@@ -93,22 +99,28 @@ module _ (m b r : ℕ) (soft : List ℤ) (p : Plan) (P : Prepares m b r soft p) 
     unfolding symbol lagrange
     symbol-flipped q =
         xorsum-cong K _ (λ j. times m (bitOf (p .hards) (R j)) (cell m (1 - b) R K j q) ⊕ bitOf f j * cell m (1 - b) R K j q)
-        (λ j l. ap (λ (u : ℕ). times m u (cell m (1 - b) R K j q)) (flipped-bit j l) ∙ xor-over m F (bitOf (p .hards) (R j)) (bitOf f j) (cell m (1 - b) R K j q)
-        ∙ ap (λ (u : ℕ). times m (bitOf (p .hards) (R j)) (cell m (1 - b) R K j q) ⊕ u) (bit-product m F b r R (bitOf f j) (bit-lt f j) (cell m (1 - b) R K j q) (cell-lt m F b r R j q)))
+        (λ j l. ap (λ (u : ℕ). times m u (cell m (1 - b) R K j q)) (flipped-bit j l)
+        ∙ xor-over m F (bitOf (p .hards) (R j)) (bitOf f j) (cell m (1 - b) R K j q)
+        ∙ ap (λ (u : ℕ). times m (bitOf (p .hards) (R j)) (cell m (1 - b) R K j q) ⊕ u)
+        (bit-product m F b r R (bitOf f j) (bit-lt f j) (cell m (1 - b) R K j q) (cell-lt m F b r R j q)))
         ∙ xorsum-xor K (λ j. times m (bitOf (p .hards) (R j)) (cell m (1 - b) R K j q)) (λ j. bitOf f j * cell m (1 - b) R K j q)
-        ∙ ap (λ (u : ℕ). xorSum K (λ j. times m (bitOf (p .hards) (R j)) (cell m (1 - b) R K j q)) ⊕ u) (sym (xor-bits-sum (λ j. cell m (1 - b) R K j q) K f))
+        ∙ ap (λ (u : ℕ). xorSum K (λ j. times m (bitOf (p .hards) (R j)) (cell m (1 - b) R K j q)) ⊕ u)
+        (sym (xor-bits-sum (λ j. cell m (1 - b) R K j q) K f))
 
     row-symbol : (q : ℕ) → q < r → symbol m b r R v (R (K + q)) ≡ rankSymbol p f q
     unfolding rankSymbol
     row-symbol q l =
         symbol-flipped (R (K + q))
         ∙ ap₂ _⊕_ (sym (P .base q l))
-        (xor-bits-sum _ K f ∙ xorsum-cong K _ _ (λ j k. ap (λ (u : ℕ). bitOf f j * u) (sym (P .column q j l k))) ∙ sym (xor-bits-sum (p .column q) K f)
+        (xor-bits-sum _ K f ∙ xorsum-cong K _ _ (λ j k. ap (λ (u : ℕ). bitOf f j * u) (sym (P .column q j l k)))
+        ∙ sym (xor-bits-sum (p .column q) K f)
         ∙ ap (λ (u : ℕ). xorBits (p .column q) u f) (sym (P .size)))
 
     same-binary : binary m b r R v ≡ rankBinary p f
     unfolding binary rankBinary
-    same-binary = all-cong r _ _ (λ q l. ap (λ (u : ℕ). ltb u 2) (row-symbol q l)) ∙ ap (λ (u : ℕ). all u (λ q. ltb (rankSymbol p f q) 2)) (sym (P .rows))
+    same-binary =
+        all-cong r _ _ (λ q l. ap (λ (u : ℕ). ltb u 2) (row-symbol q l))
+        ∙ ap (λ (u : ℕ). all u (λ q. ltb (rankSymbol p f q) 2)) (sym (P .rows))
 
     module _ (t : T (rankBinary p f)) where
       abbrev g : ℕ
@@ -158,14 +170,17 @@ module _ (m b r : ℕ) (soft : List ℤ) (p : Plan) (P : Prepares m b r soft p) 
           (λ a. let e : i ≡ K + (i - K) = omega arith in
           subst (λ (x : ℕ). symbol m b r R v (R x) ≡ bitOf W (R x)) (sym e)
           (row-symbol (i - K) (omega arith)
-          ∙ sym (word-bit (K + (i - K)) (omega arith) ∙ ap (λ (u : ℕ). hard soft (R (K + (i - K))) ⊕ u) (ranks-high (i - K) (omega arith) ∙ xor-comm _ _)
+          ∙ sym (word-bit (K + (i - K)) (omega arith)
+          ∙ ap (λ (u : ℕ). hard soft (R (K + (i - K))) ⊕ u) (ranks-high (i - K) (omega arith) ∙ xor-comm _ _)
           ∙ sym (xor-assoc (hard soft (R (K + (i - K)))) _ _) ∙ ap (λ (u : ℕ). u ⊕ rankSymbol p f (i - K)) (xor-self _) ∙ zero-xor _)))
 
       symbol-at : (q : ℕ) → q < n → symbol m b r R v q ≡ bitOf W q
-      symbol-at q l = let a = all-places .reached q l in subst (λ (x : ℕ). symbol m b r R v x ≡ bitOf W x) (sym (a .2)) (symbol-bit (a .0) (a .1))
+      symbol-at q l =
+          let a = all-places .reached q l in subst (λ (x : ℕ). symbol m b r R v x ≡ bitOf W x) (sym (a .2)) (symbol-bit (a .0) (a .1))
 
       word-lt-n : W < 2 ^ n
-      word-lt-n = subst (λ (u : ℕ). u < 2 ^ n) (sym word-is) (xor-lt n (p .hards) _ hards-lt (spread-lt R n n g (all-places .places .inside)))
+      word-lt-n =
+          subst (λ (u : ℕ). u < 2 ^ n) (sym word-is) (xor-lt n (p .hards) _ hards-lt (spread-lt R n n g (all-places .places .inside)))
 
       symbol-two : (q : ℕ) → q < n → symbol m b r R v q < 2
       symbol-two q l = subst (λ (u : ℕ). u < 2) (sym (symbol-at q l)) (bit-lt W q)
@@ -211,4 +226,5 @@ module _ (m b r : ℕ) (soft : List ℤ) (p : Plan) (P : Prepares m b r soft p) 
   unfolding rankSearched searched
   rank-search-is tau =
       ap (λ (k : ℕ). bestOver (λ i. i) (tried p) k 0 tau 0 none) (P .size)
-      ∙ sym (search-same K R (λ i. i) (seePattern m b r R soft) (tried p) Flipped (λ v f x h. pattern-same v f h x) flipped-more K 0 tau (wordOf n (hard soft)) 0 none (omega arith) flipped-start)
+      ∙ sym (search-same K R (λ i. i) (seePattern m b r R soft) (tried p) Flipped (λ v f x h. pattern-same v f h x) flipped-more K 0 tau
+      (wordOf n (hard soft)) 0 none (omega arith) flipped-start)

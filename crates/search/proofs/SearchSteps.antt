@@ -35,7 +35,8 @@ module _ (R : ℕ → ℕ) (leaf : ℕ → Best → Best) where
   search-some size i (suc may) v x h n =
       let e : may ≡ suc may - 1 = omega arith in
       ap (λ (k : ℕ). bestOver R leaf k i (suc may) v x) (next i size h)
-      ∙ ap (λ (j : ℕ). bestOver R leaf (size - (i + 1)) j may (v ⊕ 2 ^ R i) (bestOver R leaf (size - (i + 1)) j (suc may) v x)) (sym (add-one i))
+      ∙ ap (λ (j : ℕ). bestOver R leaf (size - (i + 1)) j may (v ⊕ 2 ^ R i) (bestOver R leaf (size - (i + 1)) j (suc may) v x))
+      (sym (add-one i))
       ∙ ap (λ (y : ℕ). bestOver R leaf (size - (i + 1)) (i + 1) y (v ⊕ 2 ^ R i) (bestOver R leaf (size - (i + 1)) (i + 1) (suc may) v x)) e
 
   -- no more candidates than patterns
@@ -45,7 +46,12 @@ module _ (R : ℕ → ℕ) (leaf : ℕ → Best → Best) where
   search-patterns one zero i may v x = one v x
   search-patterns one (suc k) i zero v x = search-patterns one k (suc i) zero v x
   search-patterns one (suc k) i (suc may) v x =
-      omega (arith, search-patterns one k (suc i) (suc may) v x, search-patterns one k (suc i) may (v ⊕ 2 ^ R i) (bestOver R leaf k (suc i) (suc may) v x))
+      omega (
+        arith,
+        search-patterns one k (suc i) (suc may) v x,
+        search-patterns one k (suc i) may (v ⊕ 2 ^ R i)
+            (bestOver R leaf k (suc i) (suc may) v x),
+      )
 
 -- the number of patterns, by rank
 pub patterns-pos : (k may : ℕ) → 1 ≤ patterns k may
@@ -54,23 +60,27 @@ patterns-pos zero may = omega arith
 patterns-pos (suc k) zero = patterns-pos k zero
 patterns-pos (suc k) (suc may) = omega (arith, patterns-pos k may)
 
-pub patterns-some : (size i may : ℕ) → i < size → (may ≡ 0 → ⊥) → patterns (size - i) may ≡ patterns (size - (i + 1)) may + patterns (size - (i + 1)) (may - 1)
+pub patterns-some : (size i may : ℕ) → i < size → (may ≡ 0 → ⊥)
+    → patterns (size - i) may ≡ patterns (size - (i + 1)) may + patterns (size - (i + 1)) (may - 1)
 unfolding patterns
 patterns-some size i zero h n = absurd (n refl)
 patterns-some size i (suc may) h n =
     let e : may ≡ suc may - 1 = omega arith in
-    ap (λ (k : ℕ). patterns k (suc may)) (next i size h) ∙ ap (λ (y : ℕ). patterns (size - (i + 1)) (suc may) + patterns (size - (i + 1)) y) e
+    ap (λ (k : ℕ). patterns k (suc may)) (next i size h)
+    ∙ ap (λ (y : ℕ). patterns (size - (i + 1)) (suc may) + patterns (size - (i + 1)) y) e
 
 -- two searches that see the same, over two orders, from two words that are held together by S as the flips are made
 module _ (size : ℕ) (R Q : ℕ → ℕ) (leaf other : ℕ → Best → Best) (S : ℕ → ℕ → Type 0)
-    (same : (v u : ℕ) (x : Best) → S v u → leaf v x ≡ other u x) (flips : (v u i : ℕ) → i < size → S v u → S (v ⊕ 2 ^ R i) (u ⊕ 2 ^ Q i)) where
-  pub search-same : (k i may v u : ℕ) (x : Best) → i + k ≤ size → S v u → bestOver R leaf k i may v x ≡ bestOver Q other k i may u x
-  unfolding bestOver
-  search-same zero i may v u x l h = same v u x h
-  search-same (suc k) i zero v u x l h = search-same k (suc i) zero v u x (omega arith) h
-  search-same (suc k) i (suc may) v u x l h =
-      search-same k (suc i) may (v ⊕ 2 ^ R i) (u ⊕ 2 ^ Q i) (bestOver R leaf k (suc i) (suc may) v x) (omega arith) (flips v u i (omega arith) h)
-      ∙ ap (bestOver Q other k (suc i) may (u ⊕ 2 ^ Q i)) (search-same k (suc i) (suc may) v u x (omega arith) h)
+    (same : (v u : ℕ) (x : Best) → S v u → leaf v x ≡ other u x) (flips : (v u i : ℕ) → i < size → S v u → S (v ⊕ 2 ^ R i) (u ⊕ 2 ^ Q i))
+  where
+    pub search-same : (k i may v u : ℕ) (x : Best) → i + k ≤ size → S v u → bestOver R leaf k i may v x ≡ bestOver Q other k i may u x
+    unfolding bestOver
+    search-same zero i may v u x l h = same v u x h
+    search-same (suc k) i zero v u x l h = search-same k (suc i) zero v u x (omega arith) h
+    search-same (suc k) i (suc may) v u x l h =
+        search-same k (suc i) may (v ⊕ 2 ^ R i) (u ⊕ 2 ^ Q i) (bestOver R leaf k (suc i) (suc may) v x) (omega arith)
+        (flips v u i (omega arith) h)
+        ∙ ap (bestOver Q other k (suc i) may (u ⊕ 2 ^ Q i)) (search-same k (suc i) (suc may) v u x (omega arith) h)
 
 pub better-count : (x : Best) (c : Weighed) → better x c .count ≡ x .count + 1
 unfolding better

@@ -6,7 +6,7 @@ use Rattle.field.specs.Field.{xorSum, times, lengthOf}
 use Rattle.field.specs.Laws.{Laws}
 use Rattle.field.proofs.XorSumLaws.{xorsum-cong}
 use Rattle.field.proofs.RingLaws.{zero-times}
-use Rattle.codes.specs.Word.{bitOf}
+use Rattle.codes.specs.Codeword.{bitOf}
 use Rattle.codes.specs.Lagrange.{AllPlaces, cell, lagrange}
 use Rattle.codes.proofs.WordLaws.{bit-lt}
 use Rattle.codes.proofs.LagrangeLaws.{lagrange-at}
@@ -40,5 +40,9 @@ module _ (m : ℕ) (F : Laws m) (b r : ℕ) (R : ℕ → ℕ) where
     unfolding symbol
     kept v i hi =
         lagrange-at m F (1 - b) R K (λ j. bitOf v (R j))
-        (record { inside = λ j l. ord .places .inside j (omega arith); apart = λ i j hi hj. ord .places .apart i j (omega arith) (omega arith) })
+        (record {
+          inside = λ j l. ord .places .inside j (omega arith);
+          apart = λ i j hi hj. ord .places .apart i j (omega arith)
+              (omega arith);
+        })
         (λ j _. bit-elem m F v (R j)) i hi

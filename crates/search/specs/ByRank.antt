@@ -14,7 +14,7 @@ use Prim.Native.Nat.{ℕ, zero, suc, _+_, _*_, _^_}
 use lib.Dec.{ltb}
 use Rattle.field.specs.Below.{all}
 use Rattle.field.specs.Field.{_⊕_}
-use Rattle.codes.specs.Word.{bitOf}
+use Rattle.codes.specs.Codeword.{bitOf}
 use Rattle.search.specs.Best.{Best, Weighed, none, better}
 use Rattle.search.specs.Search.{bestOver}
 use Rattle.search.specs.Plan.{Plan}

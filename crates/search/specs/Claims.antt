@@ -16,9 +16,9 @@ use lib.IntN.{ℤ}
 use lib.ListN.{length}
 use Rattle.field.specs.Below.{total}
 use Rattle.field.specs.Field.{lengthOf}
-use Rattle.soft.specs.Order.{Sorted}
+use Rattle.soft.specs.Sorted.{Sorted}
 use Rattle.soft.specs.Distance.{softDistance, flipsOf}
-use Rattle.search.specs.Candidate.{Candidate, Nearest, Counted, Member, NoRepeats}
+use Rattle.soft.specs.Candidate.{Candidate, Nearest, Counted, Member, NoRepeats}
 use Rattle.search.specs.Search.{patterns, binary, completed, searched}
 use Rattle.search.specs.Pattern.{Pattern, flippedBy, choose}
 

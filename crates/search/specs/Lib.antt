@@ -1,4 +1,3 @@
-pub mod Candidate
 pub mod Best
 pub mod Search
 pub mod Positions

@@ -7,7 +7,7 @@ use mathlib.Core.List.{List}
 use Prim.Native.Nat.{ℕ, zero, suc, _+_, _-_, _^_, _<_, _≤_}
 use lib.IntN.{ℤ}
 use Rattle.field.specs.Field.{_⊕_, lengthOf}
-use Rattle.codes.specs.Word.{wordOf}
+use Rattle.codes.specs.Codeword.{wordOf}
 use Rattle.soft.specs.Value.{hard}
 use Rattle.search.specs.ByRank.{xorBits, sumBits}
 

@@ -9,10 +9,10 @@ use mathlib.Core.List.{List}
 use Prim.Native.Nat.{ℕ, _+_, _-_, _^_, _<_, _≤_}
 use lib.IntN.{ℤ}
 use Rattle.field.specs.Field.{lengthOf}
-use Rattle.codes.specs.Word.{wordOf}
+use Rattle.codes.specs.Codeword.{wordOf}
 use Rattle.codes.specs.Lagrange.{cell}
 use Rattle.soft.specs.Value.{hard, reliability}
-use Rattle.soft.specs.Order.{Sorted}
+use Rattle.soft.specs.Sorted.{Sorted}
 use Rattle.search.specs.Search.{symbol}
 
 pub record Plan : Type 0 where

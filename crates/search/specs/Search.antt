@@ -13,7 +13,7 @@ use lib.Dec.{ltb}
 use lib.IntN.{ℤ}
 use Rattle.field.specs.Below.{all}
 use Rattle.field.specs.Field.{_⊕_, lengthOf}
-use Rattle.codes.specs.Word.{bitOf, wordOf}
+use Rattle.codes.specs.Codeword.{bitOf, wordOf}
 use Rattle.codes.specs.Lagrange.{lagrange}
 use Rattle.soft.specs.Value.{hard}
 use Rattle.soft.specs.Distance.{softDistance, flipsOf}

@@ -5,7 +5,7 @@ use lib.IntN.{ℤ, pos, negsuc}
 use lib.ListN.{replicate}
 use Rattle.field.specs.Below.{total}
 use Rattle.field.specs.Field.{lengthOf}
-use Rattle.codes.specs.Word.{bitOf}
+use Rattle.codes.specs.Codeword.{bitOf}
 use Rattle.soft.specs.Value.{softAt, hard, reliability}
 use Rattle.soft.specs.Distance.{differs, softDistance, flipsOf}
 use Rattle.sent.specs.Smallest.{insert, sorted, added, smallest, valuesWhere, rightReliabilities}
@@ -27,5 +27,6 @@ tied = pos 10 ∷ pos 10 ∷ negsuc 9 ∷ replicate 10 (pos 10) ++ (pos 5 ∷ po
 -- the word 04 60 has two wrong bits there, and its margin is none: both sums are 10, as is the zero word's distance
 pub no-margin : (flipsOf 4 tied 0x6004 ≡ 2) × (softDistance 4 tied 0x6004 ≡ 10) × (smallest 1 (rightReliabilities 4 tied 0x6004) ≡ 10)
     × (softDistance 4 tied 0 ≡ 10)
-unfolding smallest sorted insert added rightReliabilities valuesWhere differs hard reliability softAt bitOf lengthOf softDistance flipsOf total
+unfolding smallest sorted insert added rightReliabilities valuesWhere differs hard reliability softAt bitOf lengthOf softDistance flipsOf
+    total
 no-margin = (refl, refl, refl, refl)

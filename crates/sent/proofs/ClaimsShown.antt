@@ -8,7 +8,7 @@ use Rattle.field.specs.Field.{lengthOf}
 use Rattle.field.proofs.FieldLaws.{laws}
 use Rattle.soft.specs.Value.{reliability}
 use Rattle.soft.specs.Distance.{differs}
-use Rattle.search.proofs.CountLaws.{nearest-one}
+use Rattle.soft.proofs.CandidateLaws.{nearest-one}
 use Rattle.sent.specs.Smallest.{rightReliabilities}
 use Rattle.sent.specs.Claims.{SmallestAreLeast, OthersAreFarther, SentIsNearest}
 use Rattle.sent.proofs.SmallestLaws.{smallest-least}

@@ -14,12 +14,11 @@ use Rattle.field.specs.Field.{lengthOf}
 use Rattle.field.specs.Laws.{Laws}
 use Rattle.field.proofs.TestLaws.{and-left, and-right, ne→not, not-eqb}
 use Rattle.field.proofs.TotalLaws.{only-le, total-le, total-plus}
-use Rattle.codes.specs.Word.{bitOf}
-use Rattle.codes.specs.Codeword.{RootsFrom}
+use Rattle.codes.specs.Codeword.{bitOf, RootsFrom}
 use Rattle.codes.proofs.CodewordsApart.{codewords-apart}
 use Rattle.soft.specs.Value.{hard, reliability}
 use Rattle.soft.specs.Distance.{differs, softDistance, flipsOf, reliableFlips}
-use Rattle.search.specs.Candidate.{Nearest}
+use Rattle.soft.specs.Candidate.{Nearest}
 use Rattle.sent.specs.Smallest.{smallest, rightReliabilities}
 use Rattle.sent.proofs.SmallestLaws.{smallest-least}
 
@@ -50,7 +49,8 @@ module _ (m : ℕ) (F : Laws m) (b r : ℕ) (soft : List ℤ) (c v : ℕ) (hc : 
       omega (
         arith,
         codewords-apart m F b r c v hc hv ne,
-        total-le (lengthOf m) (λ p. only (unlike p) 1) (λ p. only (other p) 1 + only (differs soft c p) 1) (λ p _. cover (unlike p) (differs soft c p) 1),
+        total-le (lengthOf m) (λ p. only (unlike p) 1) (λ p. only (other p) 1 + only (differs soft c p) 1)
+            (λ p _. cover (unlike p) (differs soft c p) 1),
         total-plus (lengthOf m) (λ p. only (other p) 1) (λ p. only (differs soft c p) 1),
       )
 
@@ -62,7 +62,8 @@ module _ (m : ℕ) (F : Laws m) (b r : ℕ) (soft : List ℤ) (c v : ℕ) (hc : 
       not-eqb (bitOf c p) (bitOf v p) (and-left (unlike p) (not (differs soft c p)) t)
       (right (bitOf c p) (hard soft p) (and-right (unlike p) (not (differs soft c p)) t) ∙ sym e))))
 
-  pub sent-nearer : softDistance m soft c < smallest (r + 1 - flipsOf m soft c) (rightReliabilities m soft c) → softDistance m soft c < softDistance m soft v
+  pub sent-nearer : softDistance m soft c < smallest (r + 1 - flipsOf m soft c) (rightReliabilities m soft c)
+      → softDistance m soft c < softDistance m soft v
   unfolding rightReliabilities
   sent-nearer h =
       omega (

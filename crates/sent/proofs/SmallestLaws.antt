@@ -48,7 +48,8 @@ insert-rising : (x : ℕ) (l : List ℕ) → Rising l → Rising (insert x l)
 unfolding insert
 insert-rising x [] h = (tt, tt)
 insert-rising x (y ∷ l) h =
-    inserted Rising x y l (λ c. ((c, from-less x y l c (h .0)), h)) (λ c. (from-insert y x l (omega arith) (h .0), insert-rising x l (h .1)))
+    inserted Rising x y l (λ c. ((c, from-less x y l c (h .0)), h))
+    (λ c. (from-insert y x l (omega arith) (h .0), insert-rising x l (h .1)))
 
 sorted-rising : (l : List ℕ) → Rising (sorted l)
 unfolding sorted

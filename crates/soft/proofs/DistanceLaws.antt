@@ -19,7 +19,8 @@ only-most : (b : Bool) (x y : ℕ) → x ≤ y → only b x ≤ y
 only-most true x y h = h
 only-most false x y h = omega arith
 
-pub distance-at-most : (m : ℕ) (soft : List ℤ) (w : ℕ) → ((p : ℕ) → p < lengthOf m → reliability soft p ≤ 128) → softDistance m soft w ≤ lengthOf m * 128
+pub distance-at-most : (m : ℕ) (soft : List ℤ) (w : ℕ) → ((p : ℕ) → p < lengthOf m → reliability soft p ≤ 128)
+    → softDistance m soft w ≤ lengthOf m * 128
 unfolding softDistance
 distance-at-most m soft w h =
     total-at-most (lengthOf m) 128 _ (λ p l. only-most (differs soft w p) (reliability soft p) 128 (h p l))

@@ -1,3 +1,4 @@
 pub mod OrderLaws
 pub mod DistanceLaws
 pub mod Anchors
+pub mod CandidateLaws

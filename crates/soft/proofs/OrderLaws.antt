@@ -13,7 +13,8 @@ use Rattle.field.specs.Field.{lengthOf}
 use Rattle.field.proofs.TestLaws.{same-test, lex-says}
 use Rattle.field.proofs.TotalLaws.{total-cong, total-order, count-below}
 use Rattle.soft.specs.Value.{reliability}
-use Rattle.soft.specs.Order.{before, rankOf, reliable, Sorted}
+use Rattle.soft.specs.Order.{before, rankOf, reliable}
+use Rattle.soft.specs.Sorted.{Sorted}
 
 module _ (soft : List ℤ) where
   abbrev rel : ℕ → ℕ
@@ -26,14 +27,16 @@ module _ (soft : List ℤ) where
 
   pub before-not-both : (p q : ℕ) → T (before soft p q) → T (before soft q p) → ⊥
   before-not-both p q a b =
-      ⊎-elim (λ x. ⊎-elim (λ y. omega arith) (λ y. omega arith) (before-says q p .0 b)) (λ x. ⊎-elim (λ y. omega arith) (λ y. omega arith) (before-says q p .0 b))
+      ⊎-elim (λ x. ⊎-elim (λ y. omega arith) (λ y. omega arith) (before-says q p .0 b))
+      (λ x. ⊎-elim (λ y. omega arith) (λ y. omega arith) (before-says q p .0 b))
       (before-says p q .0 a)
 
   pub before-one : (p q : ℕ) → p ≢ q → T (before soft p q) ⊎ T (before soft q p)
   before-one p q d =
       by-cases (decLt (rel q) (rel p)) (λ l. inl (before-says p q .1 (inl l)))
       (λ a. by-cases (decLt (rel p) (rel q)) (λ l. inr (before-says q p .1 (inl l)))
-      (λ b. by-cases (decLt p q) (λ l. inl (before-says p q .1 (inr (omega arith, l)))) (λ c. inr (before-says q p .1 (inr (omega arith, omega arith))))))
+      (λ b. by-cases (decLt p q) (λ l. inl (before-says p q .1 (inr (omega arith, l))))
+      (λ c. inr (before-says q p .1 (inr (omega arith, omega arith))))))
 
   pub before-trans : (p q s : ℕ) → T (before soft p q) → T (before soft q s) → T (before soft p s)
   before-trans p q s a b = before-says p s .1 (⊎-elim
@@ -62,7 +65,8 @@ module _ (m : ℕ) (soft : List ℤ) (R : ℕ → ℕ) (S : Sorted m soft R) whe
   unfolding rankOf
   rank-at i hi =
       in-order (λ q. only (before soft q (R i)) 1)
-      ∙ total-cong (lengthOf m) (λ j. only (before soft (R j) (R i)) 1) (λ j. only (ltb j i) 1) (λ j hj. ap (λ (x : Bool). only x 1) (before-rank i j hi hj))
+      ∙ total-cong (lengthOf m) (λ j. only (before soft (R j) (R i)) 1) (λ j. only (ltb j i) 1)
+      (λ j hj. ap (λ (x : Bool). only x 1) (before-rank i j hi hj))
       ∙ count-below (lengthOf m) i ∙ omega arith
 
   pub reliable-at : (r i : ℕ) → i < lengthOf m → reliable m r soft (R i) ≡ ltb i (lengthOf m - r)

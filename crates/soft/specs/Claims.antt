@@ -9,7 +9,8 @@ use lib.Dec.{T}
 use lib.IntN.{ℤ}
 use Rattle.field.specs.Field.{lengthOf}
 use Rattle.soft.specs.Value.{reliability}
-use Rattle.soft.specs.Order.{rankOf, reliable, Sorted}
+use Rattle.soft.specs.Order.{rankOf, reliable}
+use Rattle.soft.specs.Sorted.{Sorted}
 use Rattle.soft.specs.Distance.{softDistance}
 
 -- rank-at: a sorted array agrees with the definition, in which a position's rank is how many come before it
@@ -23,4 +24,5 @@ FirstAreReliable = (m : ℕ) (soft : List ℤ) (R : ℕ → ℕ) → Sorted m so
 
 -- distance-at-most: "The largest possible sum is 63 times 128, which is 8,064." A value of eight bits has a reliability of at most 128
 abbrev pub DistancesAreSmall : Type 0
-DistancesAreSmall = (m : ℕ) (soft : List ℤ) (w : ℕ) → ((p : ℕ) → p < lengthOf m → reliability soft p ≤ 128) → softDistance m soft w ≤ lengthOf m * 128
+DistancesAreSmall =
+    (m : ℕ) (soft : List ℤ) (w : ℕ) → ((p : ℕ) → p < lengthOf m → reliability soft p ≤ 128) → softDistance m soft w ≤ lengthOf m * 128

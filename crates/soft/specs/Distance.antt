@@ -11,7 +11,7 @@ use lib.Dec.{eqb}
 use lib.IntN.{ℤ}
 use Rattle.field.specs.Below.{sumWhere, countWhere}
 use Rattle.field.specs.Field.{lengthOf}
-use Rattle.codes.specs.Word.{bitOf}
+use Rattle.codes.specs.Codeword.{bitOf}
 use Rattle.soft.specs.Value.{hard, reliability}
 use Rattle.soft.specs.Order.{reliable}
 

@@ -11,20 +11,21 @@ use native.Mathlib.Omega.{arith}
 use lib.ListN.{length, take, drop, length-take}
 use lib.Seq.{take-suc, take-add, take-all, getD-take, getD-drop}
 use borrow.Rule.Slice.PartMut.{putMid, same-len-mid}
-use Rattle.lines.specs.Put.{Put}
-use Rattle.stream.specs.Program.{newline}
-use Rattle.stream.specs.Awaited.{lineSays}
-use Rattle.stream.specs.Memory.{Memory, blockSays, afterBlock}
+use Rattle.output_lines.specs.Put.{Put}
+use Rattle.output_lines.specs.Text.{newline}
+use Rattle.lines.specs.Awaited.{lineSays}
+use Rattle.lines.specs.Memory.{Memory, blockSays, afterBlock}
 use Rattle.stream.specs.Stepped.{Ready, memoryOf, Steps}
-use Rattle.stream.specs.Claims.{NoNewline}
+use Rattle.lines.specs.Claims.{NoNewline}
 use Rattle.stream.specs.Inner.Found.{Found}
 use Rattle.stream.specs.Inner.Held.{Holds}
-use Rattle.stream.specs.Inner.Finished.{Answers, Finishes}
+use Rattle.lines.specs.Finished.{Answers}
+use Rattle.stream.specs.Inner.Finished.{Finishes}
 use Rattle.stream.specs.declared.State.{State}
-use Rattle.stream.specs.declared.phase.Answered.{Answered}
-use Rattle.stream.specs.declared.phase.Phase.{Phase}
+use Rattle.lines.specs.declared.phase.Answered.{Answered}
+use Rattle.lines.specs.declared.phase.Phase.{Phase}
 use Rattle.stream.proofs.PutLaws.{put-within, put-prints, put-after}
-use Rattle.stream.proofs.BlockLaws.{says-append, after-append, says-part, after-part, says-line, after-line}
+use Rattle.lines.proofs.BlockLaws.{says-append, after-append, says-piece, after-piece, says-line, after-line}
 
 pub record Turned (m : Memory) (block before : List ℕ) (s : State) (line out : List ℕ) (at wrote end : ℕ) : Type 0 where
   pub found : Found block at end
@@ -43,7 +44,8 @@ module _ (block : List ℕ) (at end : ℕ) (f : Found block at end) where
   found-none : NoNewline (between at end block)
   found-none k h e =
       let l : k < end - at = omega (arith, length-take (end - at) (drop at block)) in
-      f .none (at + k) (omega arith) (omega (arith, f .after)) (sym (getD-take (end - at) (drop at block) k 0 l ∙ getD-drop at block k 0) ∙ e)
+      f .none (at + k) (omega arith) (omega (arith, f .after))
+      (sym (getD-take (end - at) (drop at block) k 0 l ∙ getD-drop at block k 0) ∙ e)
 
   -- a block up to a newline, and with it
   found-up-to : take end block ≡ take at block ++ between at end block
@@ -59,24 +61,32 @@ held-short : (s : State) (line : List ℕ) → Ready s line → length (take (s 
 held-short s line r = omega (arith, length-take (s .held) line, r .size)
 
 -- an answer that was written into 64 bytes has no more
-pub answer-short : {phase : Phase} {text : List ℕ} (at : ℕ) (out : List ℕ) {r : Answered} {part : List ℕ} → Answers phase text (take (at + 64 - at) (drop at out)) r part
-    → length part ≡ length (take (at + 64 - at) (drop at out)) → r .wrote ≤ 64
-answer-short {phase} {text} at out {r} {part} a same =
-    omega (arith, put-within (lineSays phase text) (take (at + 64 - at) (drop at out)) (r .wrote) part (a .writes), length-take (at + 64 - at) (drop at out))
+pub answer-short : {phase : Phase} {text : List ℕ} (at : ℕ) (out : List ℕ) {r : Answered} {piece : List ℕ}
+    → Answers phase text (take (at + 64 - at) (drop at out)) r piece
+    → length piece ≡ length (take (at + 64 - at) (drop at out)) → r .wrote ≤ 64
+answer-short {phase} {text} at out {r} {piece} a same =
+    omega (
+      arith,
+      put-within (lineSays phase text) (take (at + 64 - at) (drop at out)) (r .wrote) piece (a .writes),
+      length-take
+          (at + 64 - at) (drop at out),
+    )
 
-module _ (m : Memory) (block before : List ℕ) (s : State) (line out : List ℕ) (at wrote end : ℕ) (k : Turned m block before s line out at wrote end) where
-  says-more : (part : List ℕ) → blockSays m (take at block ++ part) ≡ blockSays m (take at block) ++ blockSays (memoryOf s line) part
-  says-more part =
-      says-append m (take at block) part ∙ ap (λ (n : Memory). blockSays m (take at block) ++ blockSays n part) (sym (k .remembers))
+module _ (m : Memory) (block before : List ℕ) (s : State) (line out : List ℕ) (at wrote end : ℕ)
+    (k : Turned m block before s line out at wrote end) where
+  says-more : (piece : List ℕ) → blockSays m (take at block ++ piece) ≡ blockSays m (take at block) ++ blockSays (memoryOf s line) piece
+  says-more piece =
+      says-append m (take at block) piece ∙ ap (λ (n : Memory). blockSays m (take at block) ++ blockSays n piece) (sym (k .remembers))
 
-  after-more : (part : List ℕ) → afterBlock m (take at block ++ part) ≡ afterBlock (memoryOf s line) part
-  after-more part = after-append m (take at block) part ∙ ap (λ (n : Memory). afterBlock n part) (sym (k .remembers))
+  after-more : (piece : List ℕ) → afterBlock m (take at block ++ piece) ≡ afterBlock (memoryOf s line) piece
+  after-more piece = after-append m (take at block) piece ∙ ap (λ (n : Memory). afterBlock n piece) (sym (k .remembers))
 
-  pub line-more : end < length block → (r : Answered) (line' part : List ℕ) (end' : ℕ)
-      → Finishes (memoryOf s line) (between at end block) (take (wrote + 64 - wrote) (drop wrote out)) r part
-      → length line' ≡ length line → length part ≡ length (take (wrote + 64 - wrote) (drop wrote out)) → Found block (end + 1) end'
-      → Turned m block before (record { phase = r .phase; held = 0 }) line' (putMid wrote (wrote + 64 - wrote) out part) (end + 1) (wrote + r .wrote) end'
-  line-more h r line' part end' a l q g =
+  pub line-more : end < length block → (r : Answered) (line' piece : List ℕ) (end' : ℕ)
+      → Finishes (memoryOf s line) (between at end block) (take (wrote + 64 - wrote) (drop wrote out)) r piece
+      → length line' ≡ length line → length piece ≡ length (take (wrote + 64 - wrote) (drop wrote out)) → Found block (end + 1) end'
+      → Turned m block before (record { phase = r .phase; held = 0 }) line' (putMid wrote (wrote + 64 - wrote) out piece) (end + 1)
+      (wrote + r .wrote) end'
+  line-more h r line' piece end' a l q g =
       let f = k .found in
       let short = held-short s line (k .ready) in
       let none = found-none block at end f in
@@ -90,9 +100,9 @@ module _ (m : Memory) (block before : List ℕ) (s : State) (line out : List ℕ
         writes =
             rw (ap (blockSays m) (found-line block at end f h) ∙ says-more (between at end block ++ newline ∷ [])
             ∙ ap (λ (l : List ℕ). blockSays m (take at block) ++ l) (says-line (memoryOf s line) (between at end block) short none))
-            (put-after (blockSays m (take at block)) _ before out part wrote (r .wrote) (wrote + 64 - wrote) (k .writes) (a .writes) q);
+            (put-after (blockSays m (take at block)) _ before out piece wrote (r .wrote) (wrote + 64 - wrote) (k .writes) (a .writes) q);
         room = omega (arith, k .room, f .after, answer-short wrote out a q);
-        size = same-len-mid wrote (wrote + 64 - wrote) out part q ∙ k .size;
+        size = same-len-mid wrote (wrote + 64 - wrote) out piece q ∙ k .size;
         enough = k .enough;
       }
 
@@ -109,10 +119,10 @@ module _ (m : Memory) (block before : List ℕ) (s : State) (line out : List ℕ
         remembers =
             ap (λ (l : List ℕ). record { phase = s .phase; text = l }) (t .text)
             ∙ sym (ap (afterBlock m) whole ∙ after-more (between at (length block) block)
-            ∙ after-part (memoryOf s line) (between at (length block) block) (held-short s line (k .ready)) none);
+            ∙ after-piece (memoryOf s line) (between at (length block) block) (held-short s line (k .ready)) none);
         prints =
             rw (ap (blockSays m) whole ∙ says-more (between at (length block) block)
-            ∙ ap (λ (l : List ℕ). blockSays m (take at block) ++ l) (says-part (memoryOf s line) (between at (length block) block) none)
+            ∙ ap (λ (l : List ℕ). blockSays m (take at block) ++ l) (says-piece (memoryOf s line) (between at (length block) block) none)
             ∙ append-nil (blockSays m (take at block)))
             (put-prints (blockSays m (take at block)) before wrote out (k .writes));
         ready = record { held = t .most; size = t .size };

@@ -6,7 +6,7 @@ use Prim.Native.Nat.{ℕ, _+_, _<_, _≤_}
 use native.Mathlib.Decide.{decLt}
 use native.Mathlib.Omega.{arith}
 use lib.ListN.{getD}
-use Rattle.stream.specs.Program.{newline}
+use Rattle.output_lines.specs.Text.{newline}
 use Rattle.stream.specs.Inner.Found.{Clear}
 
 pub clear-to : (block : List ℕ) (from end other : ℕ) → end ≡ other → Clear block from other → Clear block from end

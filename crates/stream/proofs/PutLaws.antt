@@ -6,7 +6,7 @@ use native.Mathlib.Omega.{arith}
 use lib.ListN.{length, take, drop, length-append, take-append-drop}
 use lib.Seq.{length-take-le, take-at, drop-at, drop-drop, drop-append-le}
 use borrow.Rule.Slice.PartMut.{putMid}
-use Rattle.lines.specs.Put.{Put}
+use Rattle.output_lines.specs.Put.{Put}
 use Rattle.stream.specs.Stepped.{Prints}
 
 pub put-within : (answer before : List ℕ) (n : ℕ) (after : List ℕ) → Put answer before n after → n ≤ length after
@@ -18,12 +18,12 @@ put-prints answer before n after p =
     record { writes = p; within = l; counted = sym (length-take-le n after l) }
 
 -- an answer behind what is written, in the k bytes of the output that follow
-pub put-after : (a b before out part : List ℕ) (wrote n k : ℕ) → Put a before wrote out → Put b (take k (drop wrote out)) n part
-    → length part ≡ length (take k (drop wrote out)) → Put (a ++ b) before (wrote + n) (putMid wrote k out part)
-put-after a b before out part wrote n k p q same =
+pub put-after : (a b before out piece : List ℕ) (wrote n k : ℕ) → Put a before wrote out → Put b (take k (drop wrote out)) n piece
+    → length piece ≡ length (take k (drop wrote out)) → Put (a ++ b) before (wrote + n) (putMid wrote k out piece)
+put-after a b before out piece wrote n k p q same =
     let front : take wrote out ≡ a = ap (take wrote) (p .holds) ∙ take-at a (drop wrote before) wrote (sym (p .size)) in
     let back : drop wrote out ≡ drop wrote before = ap (drop wrote) (p .holds) ∙ drop-at a (drop wrote before) wrote (sym (p .size)) in
-    let fits : n ≤ length (take k (drop wrote out)) = omega (arith, put-within b (take k (drop wrote out)) n part q) in
+    let fits : n ≤ length (take k (drop wrote out)) = omega (arith, put-within b (take k (drop wrote out)) n piece q) in
     let rest : drop n (take k (drop wrote out)) ++ drop k (drop wrote out) ≡ drop (wrote + n) before =
     sym (drop-append-le n (take k (drop wrote out)) (drop k (drop wrote out)) fits)
     ∙ ap (drop n) (take-append-drop k (drop wrote out) ∙ back) ∙ drop-drop n wrote before

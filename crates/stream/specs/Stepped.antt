@@ -9,8 +9,8 @@ use mathlib.Core.Path.{_≡_}
 use mathlib.Core.List.{List}
 use Prim.Native.Nat.{ℕ, _≤_}
 use lib.ListN.{length, take}
-use Rattle.lines.specs.Put.{Put}
-use Rattle.stream.specs.Memory.{Memory, start, blockSays, afterBlock}
+use Rattle.output_lines.specs.Put.{Put}
+use Rattle.lines.specs.Memory.{Memory, start, blockSays, afterBlock}
 use Rattle.stream.specs.declared.State.{State}
 use Rattle.stream.specs.declared.Stepped.{Stepped}
 
@@ -26,7 +26,8 @@ pub record Begins (s : State) : Type 0 where
   pub held : s .held ≤ 513
   pub remembers : (line : List ℕ) → memoryOf s line ≡ start
 
--- the text stands at the start of the output, which is otherwise as it was. The count's bounds follow from it: with them a caller lends the text with no proof
+-- the text stands at the start of the output, which is otherwise as it was. The count's bounds follow from it: with them a caller lends the
+-- text with no proof
 pub record Prints (text before : List ℕ) (n : ℕ) (after : List ℕ) : Type 0 where
   pub writes : Put text before n after
   pub within : n ≤ length after

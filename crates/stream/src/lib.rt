@@ -2,16 +2,16 @@
 ghost use mathlib.Core.Path.{_≡_};
 ghost use Prim.Native.Nat.{_*_, _≤_};
 ghost use lib.ListN.{length};
-ghost use Rattle.stream.specs.Awaited.{isEnded};
-ghost use Rattle.stream.specs.Memory.{endSays};
+ghost use Rattle.lines.specs.Awaited.{isEnded};
+ghost use Rattle.lines.specs.Memory.{endSays};
 ghost use Rattle.stream.specs.Stepped.{Ready, memoryOf, Begins, Prints, Steps};
 ghost use Rattle.stream.specs.Inner.Finished.{Finishes};
-use crate::phase::Answered;
-use crate::phase::Phase;
 use crate::text::find_newline;
 use crate::text::hold;
+use lines::phase;
+use lines::phase::Answered;
+use lines::phase::Phase;
 
-pub mod phase; // what a finished line prints, and what is awaited after it
 pub mod text; // where a line ends, and the bytes of one that has not ended
 
 // What is remembered between blocks, beside the lent 513 bytes that hold the unfinished line: what is awaited, and how many bytes are held.
@@ -51,17 +51,17 @@ pub fn ended(state: State) -> bool
     }
 }
 
-// A line ends with the part: its answer. Where nothing is held the part is the whole line, and is not copied.
-fn finish(state: State, line: &mut [u8], part: &[u8], out: &mut [u8]) -> Answered
+// A line ends with the piece: its answer. Where nothing is held the piece is the whole line, and is not copied.
+fn finish(state: State, line: &mut [u8], piece: &[u8], out: &mut [u8]) -> Answered
     requires { ⌜ Ready state (now line) ⌝ }
     requires { ⌜ 64 ≤ length (now out) ⌝ }
-    ensures { λ r. ⌜ Finishes (memoryOf state (now (line .entry))) (now (part .entry)) (now (out .entry)) r (now (out .exit)) ⌝ }
+    ensures { λ r. ⌜ Finishes (memoryOf state (now (line .entry))) (now (piece .entry)) (now (out .entry)) r (now (out .exit)) ⌝ }
 {
     let phase = state.phase;
     if state.held == 0 {
-        return phase::answer(phase, part, out);
+        return phase::answer(phase, piece, out);
     }
-    let held = hold(line, state.held, part);
+    let held = hold(line, state.held, piece);
     phase::answer(phase, &line[..held], out)
 }
 
@@ -69,7 +69,8 @@ fn finish(state: State, line: &mut [u8], part: &[u8], out: &mut [u8]) -> Answere
 pub fn step(state: State, line: &mut [u8], block: &[u8], out: &mut [u8]) -> Stepped
     requires { ⌜ Ready state (now line) ⌝ }
     requires { ⌜ 64 * length (now block) ≤ length (now out) ⌝ }
-    ensures { λ r. ⌜ Steps (memoryOf state (now (line .entry))) (now (block .entry)) (now (out .entry)) r (now (line .exit)) (now (out .exit)) ⌝ }
+    ensures { λ r. ⌜ Steps (memoryOf state (now (line .entry))) (now (block .entry)) (now (out .entry)) r
+        (now (line .exit)) (now (out .exit)) ⌝ }
 {
     let mut current = state;
     let mut at = 0;
@@ -102,7 +103,10 @@ pub fn end(state: State, line: &[u8], out: &mut [u8]) -> usize
     let held = state.held;
     let phase = state.phase;
     match phase {
-        Phase::First => lines::answer::answer_header(&line[..held], out),
+        Phase::First => {
+            let h = input_lines::header::read_header(&line[..held]);
+            lines::answer::answer_header(h, out)
+        }
         Phase::Words(h) => {
             if held == 0 {
                 return 0;

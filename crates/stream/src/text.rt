@@ -3,7 +3,7 @@ ghost use mathlib.Core.Path.{_≡_};
 ghost use mathlib.Core.Bool.{false};
 ghost use Prim.Native.Nat.{_+_, _≤_, min};
 ghost use lib.ListN.{length};
-ghost use Rattle.stream.specs.Program.{newline};
+ghost use Rattle.output_lines.specs.Text.{newline};
 ghost use Rattle.stream.specs.Inner.Found.{Clear, Found};
 ghost use Rattle.stream.specs.Inner.Held.{Holds};
 
@@ -72,15 +72,15 @@ fn least(a: usize, b: usize) -> usize
     if a < b { a } else { b }
 }
 
-// Adds a part of a line to the bytes that are held, as far as there is room, and gives their number.
-pub fn hold(line: &mut [u8], held: usize, part: &[u8]) -> usize
+// Adds a piece of a line to the bytes that are held, as far as there is room, and gives their number.
+pub fn hold(line: &mut [u8], held: usize, piece: &[u8]) -> usize
     requires { ⌜ (held ≤ 513) × (length (now line) ≡ 513) ⌝ }
-    ensures { λ r. ⌜ Holds (now (line .entry)) held (now (part .entry)) r (now (line .exit)) ⌝ }
+    ensures { λ r. ⌜ Holds (now (line .entry)) held (now (piece .entry)) r (now (line .exit)) ⌝ }
 {
-    let count = least(MOST - held, part.len());
+    let count = least(MOST - held, piece.len());
     let mut i = 0;
     while i < count {
-        line[held + i] = part[i];
+        line[held + i] = piece[i];
         i += 1;
     }
     held + count

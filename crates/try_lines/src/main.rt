@@ -1,16 +1,46 @@
-// Runs lines and whole inputs, good and bad, through the program's text forms and its step (document 01, 'The program'): a line a case.
+// Runs lines and whole inputs, good and bad, through the program's text forms and its step (document 01, 'The program').
 //
-// Cases of a kind stand in one text, parted by bars. A byte that is no printable character, and a backslash, is printed as a backslash and two hexadecimal digits. The file `stdout` has what the
-// paper says, written by other means.
-mod text; // what lines are made of
-mod first_lines; // headers
-mod word_lines; // word lines of 15 values and less
-mod long_lines; // words of 31 and 63 bits, and lines of about 512 bytes
-mod inputs; // whole inputs
+// The cases stand in the file `stdin`, a line each. A line is printed as it stands, and its answer after it:
+//
+//     header [TEXT]               a first line
+//     word [TEXT] under [TEXT]    a word line under a first line
+//     input [TEXT]                a whole input
+//     NAME|CASE                   a case that is printed by a name
+//
+// A line that starts with a capital letter is a title, and has no answer. Any other, and a case of more than 1,024 bytes, is a bad case.
+// In a TEXT a backslash and two hexadecimal digits are a byte: so stand bytes that are no printable character, a bar and a closing bracket.
+// The file `stdout` has what the paper says, written by other means.
+mod printed; // what is printed
+mod quoted; // texts in brackets, and the bytes that they spell
+mod cases; // a case and its answer
 
+use bytes::scan::find;
+use libc::STDIN_FILENO;
+
+// The case of a line stands behind its name, or is its own name.
+fn run_line(line: &[u8]) {
+    let name = find(line, 0, line.len(), b'|');
+    printed::put_text(&line[0..name]);
+    if name == line.len() {
+        cases::run(line);
+        return;
+    }
+    let start = name + 1;
+    cases::run(&line[start..]);
+}
+
+fn each_line(stored: &[u8]) {
+    let mut at = 0;
+    while at < stored.len() {
+        let end = find(stored, at, stored.len(), b'\n');
+        run_line(&stored[at..end]);
+        at = end + 1;
+    }
+}
+
+// All lines together have at most 65,536 bytes: what is more is not run.
 fn main() {
-    first_lines::run();
-    word_lines::run();
-    long_lines::run();
-    inputs::run();
+    let mut space = io::large_buffer();
+    let n = io::read_full(STDIN_FILENO, &mut space);
+    each_line(&space[..n]);
 }

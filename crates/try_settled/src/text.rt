@@ -1,62 +1,51 @@
-// What the lines of all cases are made of: words, numbers, rows of bytes and of values.
-ghost use Prim.Native.Nat.{_≤_};
-ghost use lib.ListN.{length};
+// What is printed: a line, with what its call answers in the place of its marks.
+use crate::scan::byte_at;
+use crate::scan::count_of;
 use libc::STDOUT_FILENO;
+use std::num::wrapping_sub_usize;
 
 pub fn put_text(text: &[u8]) {
     io::write_all(STDOUT_FILENO, text);
 }
 
-// A number and the text before it.
-pub fn put(text: &[u8], n: u64) {
-    put_text(text);
-    io::print_decimal(STDOUT_FILENO, n);
+pub fn put_char(byte: u8) {
+    io::write_all(STDOUT_FILENO, &[byte]);
 }
 
-// The byte at place i of a row of bytes, with a space before all but the first.
-fn put_hex_byte(byte: u8, i: usize) {
-    if 0 < i {
-        put_text(b" ");
-    }
-    io::print_hex(STDOUT_FILENO, byte as u64, 2);
+// How many bytes past the eleventh are not ff.
+fn changed(space: &[u8; 4096]) -> usize {
+    wrapping_sub_usize(
+        wrapping_sub_usize(space.len(), 11),
+        wrapping_sub_usize(count_of(255, space, space.len()), count_of(255, space, 11)),
+    )
 }
 
-pub fn put_hex_bytes(bytes: &[u8]) {
-    if bytes.len() == 0 {
-        put_text(b"none");
+// The mark after those of the numbers tells how many bytes were changed.
+fn put_number(numbers: [u64; 4], k: usize, space: &[u8; 4096]) {
+    if k < 4 {
+        io::print_decimal(STDOUT_FILENO, numbers[k]);
+        return;
     }
-    let mut i = 0;
-    while i < bytes.len() {
-        put_hex_byte(bytes[i], i);
-        i += 1;
-    }
+    io::print_decimal(STDOUT_FILENO, changed(space) as u64);
 }
 
-// How many bytes are not ff.
-fn changed(bytes: &[u8]) -> usize {
-    let mut count = 0;
-    let mut i = 0;
-    while i < bytes.len() {
-        if bytes[i] != 255 {
-            count += 1;
+// The byte at a place of a line, or what its mark stands for.
+fn put_at(line: &[u8], at: usize, numbers: [u64; 4], space: &[u8; 4096]) {
+    let byte = byte_at(line, at);
+    let before = count_of(byte, line, at);
+    match byte {
+        b'?' => put_number(numbers, before, space),
+        b'*' => {
+            io::print_hex(STDOUT_FILENO, byte_at(space, before) as u64, 2);
         }
-        i += 1;
+        _ => put_char(byte),
     }
-    count
 }
 
-// The first 11 bytes of thousands, and of the others how many were changed.
-pub fn put_long_bytes(bytes: &[u8])
-    requires { ⌜ 11 ≤ length (now bytes) ⌝ }
-{
-    put_hex_bytes(&bytes[0..11]);
-    put(b" and ", (bytes.len() - 11) as u64);
-    put(b" more of which ", changed(&bytes[11..]) as u64);
-    put_text(b" changed");
-}
-
-pub fn put_code(m: u16, t: u16, s: u16) {
-    put(b" m=", m as u64);
-    put(b" t=", t as u64);
-    put(b" s=", s as u64);
+pub fn put_line(line: &[u8], numbers: [u64; 4], space: &[u8; 4096]) {
+    let mut at = 0;
+    while at < line.len() {
+        put_at(line, at, numbers, space);
+        at += 1;
+    }
 }

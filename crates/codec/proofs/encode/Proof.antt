@@ -5,7 +5,7 @@ use Prim.Native.Nat.{ℕ}
 use native.Mathlib.Omega.{arith}
 use lib.ListN.{drop}
 use denote.Ref.{now}
-use Rattle.frame.specs.Packing.{packed, written}
+use Rattle.words.specs.Packing.{packed, written}
 use Rattle.codec.proofs.CodecLaws.{encode-refuses, encode-checked, encode-small, encode-writes}
 use borrow.Author.Needs.{needs}
 use Rattle.codec.proofs.encode.Statement.{statement}
@@ -23,8 +23,11 @@ returns c =
 word-of-requires : tie.Need-word-of-requires
 word-of-requires c κs =
     let a = c .before .before .before .args in
-    let r = c .before .encode-refusal in
-    (encode-checked (a .m) (a .t) (a .s) (a .message) (now (a .buf)) (r .result) (r .ensures) (c .if1 .left) .known, encode-small (a .m) (a .t) (a .s) (a .message) (now (a .buf)) (r .result) (r .ensures) (c .if1 .left))
+    let r = c .before .encode-refusal in (
+      encode-checked (a .m) (a .t) (a .s) (a .message) (now (a .buf)) (r .result) (r .ensures) (c .if1 .left) .known,
+      encode-small (a .m)
+          (a .t) (a .s) (a .message) (now (a .buf)) (r .result) (r .ensures) (c .if1 .left),
+    )
 
 bytes-of-requires : tie.Need-bytes-of-requires
 bytes-of-requires c κs =
@@ -37,7 +40,12 @@ put-word-requires : tie.Need-put-word-requires
 put-word-requires c κs =
     let a = c .before .before .before .before .before .before .args in
     let r = c .before .before .before .before .encode-refusal in
-    omega (arith, c .before .bytes-of .ensures .0, encode-checked (a .m) (a .t) (a .s) (a .message) (now (a .buf)) (r .result) (r .ensures) (c .before .before .before .if1 .left) .room)
+    omega (
+      arith,
+      c .before .bytes-of .ensures .0,
+      encode-checked (a .m) (a .t) (a .s) (a .message) (now (a .buf)) (r .result) (r .ensures)
+          (c .before .before .before .if1 .left) .room,
+    )
 
 same-length : tie.Need-same-length
 same-length c = search needs
@@ -48,8 +56,10 @@ returns-2 c =
     let a = c .before .before .before .before .before .before .before .before .before .args in
     let r = c .before .before .before .before .before .before .before .encode-refusal in
     let w = c .before .before .before .before .before .word-of in
-    encode-writes (a .m) (a .t) (a .s) (a .message) (now (a .buf)) (r .result) (r .ensures) (c .before .before .before .before .before .before .if1 .left) (w .result) _ (w .ensures)
-    (c .before .before .put-word .ensures ∙ ap (λ (n : ℕ). packed (w .result) n ++ drop n (now (a .buf))) (c .before .before .before .before .bytes-of .ensures .0))
+    encode-writes (a .m) (a .t) (a .s) (a .message) (now (a .buf)) (r .result) (r .ensures)
+    (c .before .before .before .before .before .before .if1 .left) (w .result) _ (w .ensures)
+    (c .before .before .put-word .ensures
+    ∙ ap (λ (n : ℕ). packed (w .result) n ++ drop n (now (a .buf))) (c .before .before .before .before .bytes-of .ensures .0))
 
 pub encode-spec : {M : Type 1} → statement M
 encode-spec =

@@ -35,7 +35,8 @@ returns c =
     record {
       answer = r .read .result;
       answers =
-          read-narrow (n .before .before .narrow .ensures) (n .before .narrow2 .ensures) (n .narrow3 .ensures) (now (a .word)) (r .read .ensures);
+          read-narrow (n .before .before .narrow .ensures) (n .before .narrow2 .ensures) (n .narrow3 .ensures) (now (a .word))
+          (r .read .ensures);
       refusal = refl;
       tells = c .before .before .before .tell-message .ensures;
     }

@@ -24,7 +24,8 @@ returns-2 c =
 returns-3 : tie.Need-returns-3
 returns-3 c =
     let a = c .before .before .args in
-    sym (set-out (now (a .message)) 0 (a .number) (c .if2 .left)) ∙ told-one (a .refusal) (a .number) (now (a .message)) (c .before .if1 .left)
+    sym (set-out (now (a .message)) 0 (a .number) (c .if2 .left))
+    ∙ told-one (a .refusal) (a .number) (now (a .message)) (c .before .if1 .left)
 
 pub tell-message-spec : {M : Type 1} → statement M
 tell-message-spec =

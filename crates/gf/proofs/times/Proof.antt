@@ -37,8 +37,10 @@ loop-again c =
     let k = m - (l .i + 1) in
     let d : c .double .result ≡ timesAlpha m (l .shifted) = c .double .ensures in (
       ⊎-elim
-          (λ w. ap₂ (λ (u v : ℕ). u ⊕ shiftAdd m k (l .rest / 2) v) (w .1) d ∙ round-odd m (l .i) (l .rest) (l .shifted) (l .sum) _ (omega arith) (omega arith) (l .inv .0))
-          (λ w. ap₂ (λ (u v : ℕ). u ⊕ shiftAdd m k (l .rest / 2) v) (w .1) d ∙ round-even m (l .i) (l .rest) (l .shifted) (l .sum) _ (omega arith) (omega arith) (l .inv .0))
+          (λ w. ap₂ (λ (u v : ℕ). u ⊕ shiftAdd m k (l .rest / 2) v) (w .1) d
+          ∙ round-odd m (l .i) (l .rest) (l .shifted) (l .sum) _ (omega arith) (omega arith) (l .inv .0))
+          (λ w. ap₂ (λ (u v : ℕ). u ⊕ shiftAdd m k (l .rest / 2) v) (w .1) d
+          ∙ round-even m (l .i) (l .rest) (l .shifted) (l .sum) _ (omega arith) (omega arith) (l .inv .0))
           (c .before .if1 .came),
       omega (arith, alpha-lt m (l .shifted) (omega arith) (omega arith)),
       omega arith,

@@ -9,7 +9,8 @@ use Rattle.malligovu.proofs.run.Statement.{statement}
 use Rattle.malligovu.proofs.run.Tie as tie
 
 abbrev Inv-loop : tie.InvT-loop
-Inv-loop line₀ block₀ out₀ state₀ on₀ reads₀ line block out state on reads = Ready state line × (4096 ≡ length block) × (262144 ≡ length out)
+Inv-loop line₀ block₀ out₀ state₀ on₀ reads₀ line block out state on reads = Ready state line × (4096 ≡ length block)
+    × (262144 ≡ length out)
 
 abbrev μ-loop : tie.MeasureT-loop
 μ-loop line₀ block₀ out₀ state₀ on₀ reads₀ line block out state on reads = reads
@@ -18,7 +19,8 @@ start-requires : tie.Need-start-requires Inv-loop μ-loop
 start-requires c κs = search needs
 
 loop-holds : tie.Need-loop-holds Inv-loop μ-loop
-loop-holds c = let p = c .before .before .before .before .pre in (record { held = c .start .ensures .held; size = sym (p .0) }, p .1 .0, p .1 .1)
+loop-holds c =
+    let p = c .before .before .before .before .pre in (record { held = c .start .ensures .held; size = sym (p .0) }, p .1 .0, p .1 .1)
 
 take-block-requires : tie.Need-take-block-requires Inv-loop μ-loop
 take-block-requires c κs = let i = c .before .before .before .before .before .loop .inv in (i .0, (i .1, i .2))

@@ -56,8 +56,8 @@ symbol-table-requires c κs =
 row-sums-requires : tie.Need-row-sums-requires
 row-sums-requires c κs = search needs
 
-bytes-of-requires : tie.Need-bytes-of-requires
-bytes-of-requires c κs = search needs
+word-bytes-requires : tie.Need-word-bytes-requires
+word-bytes-requires c κs = search needs
 
 cast-t24 : tie.Need-cast-t24
 cast-t24 c = search needs
@@ -96,7 +96,7 @@ returns c =
     let p : Prepared = record {
       size = size .result;
       rows = n .result - size .result;
-      hards = c .bytes-of .result;
+      hards = c .word-bytes .result;
       sides = ranks .result .bits / 2 ^ size .result;
       base = c .before .row-sums .result;
       order = order .result;
@@ -107,7 +107,7 @@ returns c =
     (record {
       size = f;
       rows = omega (arith, roots-fit m t known);
-      hards = c .bytes-of .ensures;
+      hards = c .word-bytes .ensures;
       order = order .ensures;
       ranks = ranks .ensures;
       weight = refl;
@@ -129,7 +129,7 @@ prepare-spec =
     shr-sides
     symbol-table-requires
     row-sums-requires
-    bytes-of-requires
+    word-bytes-requires
     cast-t24
     cast-t25
     cast-t26

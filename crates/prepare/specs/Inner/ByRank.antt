@@ -7,7 +7,7 @@ use mathlib.Core.Path.{_≡_}
 use mathlib.Core.List.{List}
 use Prim.Native.Nat.{ℕ, _<_}
 use lib.ListN.{getD}
-use Rattle.codes.specs.Word.{bitOf, wordOf}
+use Rattle.codes.specs.Codeword.{bitOf, wordOf}
 use Rattle.ranks.specs.Places.{placeIn}
 use Rattle.ranks.specs.declared.Position.{Position}
 use Rattle.prepare.specs.declared.by_rank.ByRank.{ByRank}

@@ -1,22 +1,24 @@
--- `stream::finish` meets its contract: the part is the whole line, or is held behind what is held of it. Assumes nothing.
+-- `stream::finish` meets its contract: the piece is the whole line, or is held behind what is held of it. Assumes nothing.
 use mathlib.Core.Path.{sym, _∙_}
 use mathlib.Core.List.{List}
 use Prim.Native.Nat.{ℕ}
 use native.Mathlib.Omega.{arith}
 use lib.ListN.{length-take}
 use denote.Ref.{now}
-use Rattle.stream.specs.Memory.{kept}
-use Rattle.stream.specs.Inner.Finished.{Answers}
-use Rattle.stream.specs.declared.phase.Phase.{Phase}
-use Rattle.stream.specs.declared.phase.Answered.{Answered}
-use Rattle.stream.proofs.KeptLaws.{line-kept, phase-kept}
+use Rattle.lines.specs.Memory.{kept}
+use Rattle.lines.specs.Finished.{Answers}
+use Rattle.lines.specs.declared.phase.Phase.{Phase}
+use Rattle.lines.specs.declared.phase.Answered.{Answered}
+use Rattle.lines.proofs.KeptLaws.{line-kept, phase-kept}
 use borrow.Author.Needs.{needs}
 use Rattle.stream.proofs.finish.Statement.{statement}
 use Rattle.stream.proofs.finish.Tie as tie
 
 -- of the line's text the first 513 bytes are enough
-answers-kept : (phase : Phase) (text before : List ℕ) (r : Answered) (after : List ℕ) → Answers phase text before r after → Answers phase (kept text) before r after
-answers-kept phase text before r after a = record { next = a .next ∙ sym (phase-kept phase text); writes = rw (line-kept phase text) (a .writes) }
+answers-kept : (phase : Phase) (text before : List ℕ) (r : Answered) (after : List ℕ) → Answers phase text before r after
+    → Answers phase (kept text) before r after
+answers-kept phase text before r after a =
+    record { next = a .next ∙ sym (phase-kept phase text); writes = rw (line-kept phase text) (a .writes) }
 
 answer-requires : tie.Need-answer-requires
 answer-requires c κs = search needs
@@ -27,7 +29,8 @@ same-length c = search needs
 returns : tie.Need-returns
 returns c =
     let a = c .before .before .before .before .before .before .before .before .before .args in
-    rw (c .before .before .before .before .if1 .taken) (answers-kept (a .state .phase) (now (a .part)) (now (a .out)) _ _ (c .before .before .answer .ensures))
+    rw (c .before .before .before .before .if1 .taken)
+    (answers-kept (a .state .phase) (now (a .piece)) (now (a .out)) _ _ (c .before .before .answer .ensures))
 
 hold-requires : tie.Need-hold-requires
 hold-requires c κs = search needs

@@ -4,14 +4,15 @@ use Prim.Native.Nat.{_-_}
 use native.Mathlib.Omega.{arith}
 use lib.ListN.{length, length-take, length-drop}
 use denote.Ref.{now}
-use Rattle.stream.specs.Memory.{blockSays, afterBlock}
+use Rattle.lines.specs.Memory.{blockSays, afterBlock}
 use Rattle.stream.specs.Stepped.{memoryOf}
 use Rattle.stream.proofs.BlockSteps.{Turned, answer-short, line-more, rest-held}
 use Rattle.stream.proofs.step.Statement.{statement}
 use Rattle.stream.proofs.step.Tie as tie
 
 abbrev Inv-loop : tie.InvT-loop
-Inv-loop line₀ block out₀ current₀ at₀ wrote₀ newline₀ line out current at wrote newline = Turned (memoryOf current₀ line₀) block out₀ current line out at wrote newline
+Inv-loop line₀ block out₀ current₀ at₀ wrote₀ newline₀ line out current at wrote newline = Turned (memoryOf current₀ line₀) block out₀
+    current line out at wrote newline
 
 abbrev μ-loop : tie.MeasureT-loop
 μ-loop line₀ block out₀ current₀ at₀ wrote₀ newline₀ line out current at wrote newline = length block - at
@@ -64,7 +65,13 @@ add-wrote c =
     let l = c .before .before .before .before .before .before .before .before .before .before .loop in
     let f = c .before .before .before .before .before .finish in
     let k = l .inv in
-    omega (arith, c .before .before .before .before .before .before .before .before .before, k .found .after, answer-short (l .wrote) (l .out) (f .ensures) (f .kept .1 .1 .1 .0))
+    omega (
+      arith,
+      c .before .before .before .before .before .before .before .before .before,
+      k .found .after,
+      answer-short (l .wrote)
+          (l .out) (f .ensures) (f .kept .1 .1 .1 .0),
+    )
 
 add-at : tie.Need-add-at Inv-loop μ-loop
 add-at c = omega arith
@@ -77,11 +84,12 @@ loop-less c = omega arith
 
 loop-again : tie.Need-loop-again Inv-loop μ-loop
 loop-again c =
-    let a = c .before .before .before .before .before .before .before .before .before .before .before .before .before .before .before .before .args in
-    let l = c .before .before .before .before .before .before .before .before .before .before .before .loop in
     let f = c .before .before .before .before .before .before .finish in
-    line-more (memoryOf (a .state) (now (a .line))) (now (a .block)) (now (a .out)) (l .current) (l .line) (l .out) (l .at) (l .wrote) (l .newline) (l .inv)
-    (c .before .before .before .before .before .before .before .before .before .before .loop-test .taken) (f .result) (f .last .1 .0) (f .last .1 .1 .1 .0)
+    let t = c .before .before .before .before .before .before .before .before .before .before in
+    let l = t .before .loop in
+    let a = t .before .before .before .before .before .before .args in
+    line-more (memoryOf (a .state) (now (a .line))) (now (a .block)) (now (a .out)) (l .current) (l .line) (l .out) (l .at) (l .wrote)
+    (l .newline) (l .inv) (t .loop-test .taken) (f .result) (f .last .1 .0) (f .last .1 .1 .1 .0)
     (c .find-newline2 .result) (f .ensures) (f .kept .1 .0) (f .kept .1 .1 .1 .0) (c .find-newline2 .ensures)
 
 sub-hold : tie.Need-sub-hold Inv-loop μ-loop
@@ -97,7 +105,9 @@ hold-requires : tie.Need-hold-requires Inv-loop μ-loop
 hold-requires c κs = let k = c .before .before .before .loop .inv .ready in (k .held, k .size)
 
 same-length : tie.Need-same-length Inv-loop μ-loop
-same-length c = c .before .before .hold .ensures .size ∙ sym (c .before .before .before .before .before .before .before .before .before .before .before .pre .0 .size)
+same-length c =
+    c .before .before .hold .ensures .size
+    ∙ sym (c .before .before .before .before .before .before .before .before .before .before .before .pre .0 .size)
 
 same-length-2 : tie.Need-same-length-2 Inv-loop μ-loop
 same-length-2 c = c .before .before .before .before .before .before .loop .inv .size
@@ -107,7 +117,8 @@ returns c =
     let a = c .before .before .before .before .before .before .before .before .before .before .before .args in
     let l = c .before .before .before .before .before .before .loop in
     let h = c .before .before .hold in
-    rest-held (memoryOf (a .state) (now (a .line))) (now (a .block)) (now (a .out)) (l .current) (l .line) (l .out) (l .at) (l .wrote) (l .newline) (l .inv)
+    rest-held (memoryOf (a .state) (now (a .line))) (now (a .block)) (now (a .out)) (l .current) (l .line) (l .out) (l .at) (l .wrote)
+    (l .newline) (l .inv)
     (c .before .before .before .before .before .loop-test .left) (h .result) (h .last .0) (h .ensures)
 
 pub step-spec : {M : Type 1} → statement M

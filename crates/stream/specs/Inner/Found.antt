@@ -3,7 +3,7 @@ use mathlib.Core.Path.{_≡_}
 use mathlib.Core.List.{List}
 use Prim.Native.Nat.{ℕ, _<_, _≤_}
 use lib.ListN.{length, getD}
-use Rattle.stream.specs.Program.{newline}
+use Rattle.output_lines.specs.Text.{newline}
 
 -- no newline from the one place to the other
 abbrev pub Clear : List ℕ → ℕ → ℕ → Type 0

@@ -61,7 +61,8 @@ returns : tie.Need-returns Inv-loop μ-loop
 returns c =
     let a = c .before .before .before .before .args in
     let l = c .before .loop in
-    divided (parityOf (a .m) (a .t)) (generatorOf (a .m) (a .t)) (dimensionOf (a .m) (a .t)) (a .word) (l .i) (l .left) (l .moved) (l .inv) (c .loop-test .left)
+    divided (parityOf (a .m) (a .t)) (generatorOf (a .m) (a .t)) (dimensionOf (a .m) (a .t)) (a .word) (l .i) (l .left) (l .moved) (l .inv)
+    (c .loop-test .left)
 
 pub remainder-spec : {M : Type 1} → statement M
 remainder-spec =

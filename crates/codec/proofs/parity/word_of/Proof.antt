@@ -17,15 +17,20 @@ shl-moved c = search needs
 
 -- the message moved up, as the code does it
 moved : (c : tie.After-parity-bits)
-    → c .before .args .message * 2 ^ c .parity-bits .result % 2 ^ 64 ≡ c .before .args .message * 2 ^ parityOf (c .before .args .m) (c .before .args .t)
+    → c .before .args .message * 2 ^ c .parity-bits .result % 2 ^ 64 ≡ c .before .args .message * 2 ^ parityOf (c .before .args .m)
+    (c .before .args .t)
 moved c =
     let a = c .before .args in
-    ap (λ (x : ℕ). a .message * 2 ^ x % 2 ^ 64) (c .parity-bits .ensures .0) ∙ message-moved (a .m) (a .t) (a .message) (c .before .pre .0) (c .before .pre .1)
+    ap (λ (x : ℕ). a .message * 2 ^ x % 2 ^ 64) (c .parity-bits .ensures .0)
+    ∙ message-moved (a .m) (a .t) (a .message) (c .before .pre .0) (c .before .pre .1)
 
 remainder-requires : tie.Need-remainder-requires
 remainder-requires c κs =
-    let a = c .before .args in let p = c .before .pre in
-    (p .0, subst (λ (x : ℕ). x < 2 ^ (parityOf (a .m) (a .t) + dimensionOf (a .m) (a .t))) (sym (moved c)) (moved-lt (a .m) (a .t) (a .message) (p .0) (p .1)))
+    let a = c .before .args in let p = c .before .pre in (
+      p .0,
+      subst (λ (x : ℕ). x < 2 ^ (parityOf (a .m) (a .t) + dimensionOf (a .m) (a .t))) (sym (moved c))
+          (moved-lt (a .m) (a .t) (a .message) (p .0) (p .1)),
+    )
 
 returns : tie.Need-returns
 unfolding _⊕_

@@ -15,7 +15,8 @@ returns : tie.Need-returns
 unfolding encodeRefusal
 returns c =
     let a = c .before .before .args in
-    code-given (a .m) (a .t) (a .s) (largeMessage (a .m) (a .t) (a .s) (a .message) ∷ smallBuffer (a .m) (a .room) ∷ []) (c .before .code-refusal .ensures) (c .if1 .taken)
+    code-given (a .m) (a .t) (a .s) (largeMessage (a .m) (a .t) (a .s) (a .message) ∷ smallBuffer (a .m) (a .room) ∷ [])
+    (c .before .code-refusal .ensures) (c .if1 .taken)
 
 large-message-requires : tie.Need-large-message-requires
 large-message-requires c κs = let a = c .before .before .args in code-passed (a .m) (a .t) (a .s) (omega arith)
@@ -33,7 +34,8 @@ returns-2 c =
     let large = c .before .before .large-message .ensures in
     let small = c .before .small-buffer .ensures in
     code-clear (a .m) (a .t) (a .s) (largeMessage (a .m) (a .t) (a .s) (a .message) ∷ smallBuffer (a .m) (a .room) ∷ []) (omega arith)
-    (first-both (smallBuffer (a .m) (a .room) ∷ []) (largeMessage (a .m) (a .t) (a .s) (a .message) ∷ []) tt large small (c .first .ensures))
+    (first-both (smallBuffer (a .m) (a .room) ∷ []) (largeMessage (a .m) (a .t) (a .s) (a .message) ∷ []) tt large small
+    (c .first .ensures))
 
 pub encode-refusal-spec : {M : Type 1} → statement M
 encode-refusal-spec =

@@ -2,7 +2,7 @@
 use mathlib.Core.Path.{sym}
 use native.Mathlib.Omega.{arith}
 use borrow.Author.Needs.{needs}
-use Rattle.frame.proofs.ShapeLaws.{one-shifted}
+use Rattle.words.proofs.ShapeLaws.{one-shifted}
 use Rattle.frame.proofs.RefusalSteps.{at-7, past-7}
 use Rattle.frame.proofs.refusal.large_message.Statement.{statement}
 use Rattle.frame.proofs.refusal.large_message.Tie as tie

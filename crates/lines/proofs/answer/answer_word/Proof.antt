@@ -23,13 +23,15 @@ returns : tie.Need-returns
 returns c =
     let a = c .before .before .before .before .before .before .before .before .before .before .args in
     let v = c .before .before .before .before .before .before .read-values in
-    rw (answers-line (a .h) (a .text .now) (sym (v .ensures .good) ∙ not-true _ (c .before .before .before .before .if1 .taken))) (c .before .before .put-line .ensures)
+    rw (answers-line (a .h) (a .text .now) (sym (v .ensures .good) ∙ not-true _ (c .before .before .before .before .if1 .taken)))
+    (c .before .before .put-line .ensures)
 
 array-share-prefix-values : tie.Need-array-share-prefix-values
 array-share-prefix-values c = c .before .before .read-values .ensures .fits
 
 slice-aggregate-decode : tie.Need-slice-aggregate-decode
-slice-aggregate-decode c = let v = c .before .before .before .read-values in sym (length-take-le (v .result .count) (v .last .1 .0) (v .ensures .fits))
+slice-aggregate-decode c =
+    let v = c .before .before .before .read-values in sym (length-take-le (v .result .count) (v .last .1 .0) (v .ensures .fits))
 
 slice-aggregate-decode-2 : tie.Need-slice-aggregate-decode-2
 slice-aggregate-decode-2 c = search needs
@@ -45,11 +47,13 @@ same-length-2 c = search needs
 
 returns-2 : tie.Need-returns-2
 returns-2 c =
-    let a = c .before .before .before .before .before .before .before .before .before .before .before .before .before .before .before .before .args in
-    let v = c .before .before .before .before .before .before .before .before .before .before .before .before .read-values in
-    let g = sym (v .ensures .good) ∙ not-false _ (c .before .before .before .before .before .before .before .before .before .before .if1 .left) in
     let d = c .before .before .before .before .before .before .before .decode in
-    rw (answers-refused (a .h) (a .text .now) g _ (v .ensures .holds (subst T (sym g) tt)) (d .result) _ (d .ensures) (c .before .before .before .before .if2 .taken)) (c .before .before .put-refused .ensures)
+    let e = c .before .before .before .before .before .before .before .before .before .before in
+    let v = e .before .before .read-values in
+    let a = e .before .before .before .before .before .before .args in
+    let g = sym (v .ensures .good) ∙ not-false _ (e .if1 .left) in
+    rw (answers-refused (a .h) (a .text .now) g _ (v .ensures .holds (subst T (sym g) tt)) (d .result) _ (d .ensures)
+    (c .before .before .before .before .if2 .taken)) (c .before .before .put-refused .ensures)
 
 bytes-of-requires : tie.Need-bytes-of-requires
 bytes-of-requires c κs = let k = decoded-known (c .before .before .before .decode .ensures) (c .if2 .left) in (k .m-low, k .m-high)
@@ -66,19 +70,27 @@ slice-aggregate-put-ok c =
 put-ok-requires : tie.Need-put-ok-requires
 put-ok-requires c κs =
     let d = c .before .before .before .before .before .before .decode in
-    let w = c .before .before .bytes-of in
-    (omega (arith, w .ensures .1, length-take (w .result) (d .last .1 .1 .1 .1 .1 .0)), c .before .before .before .before .before .before .before .before .before .before .before .before .before .before .before .pre)
+    let w = c .before .before .bytes-of in (
+      omega (arith, w .ensures .1, length-take (w .result) (d .last .1 .1 .1 .1 .1 .0)),
+      c .before .before .before .before .before .before .before .before .before .before .before .before .before .before .before .pre,
+    )
 
 same-length-3 : tie.Need-same-length-3
 same-length-3 c = search needs
 
 returns-3 : tie.Need-returns-3
 returns-3 c =
-    let a = c .before .before .before .before .before .before .before .before .before .before .before .before .before .before .before .before .before .before .args in
-    let v = c .before .before .before .before .before .before .before .before .before .before .before .before .before .before .read-values in
-    let g = sym (v .ensures .good) ∙ not-false _ (c .before .before .before .before .before .before .before .before .before .before .before .before .if1 .left) in
     let d = c .before .before .before .before .before .before .before .before .before .decode in
-    rw (answers-ok (a .h) (a .text .now) g _ (v .ensures .holds (subst T (sym g) tt)) (d .result) _ (d .ensures) (c .before .before .before .before .before .before .if2 .left), ← c .before .before .before .before .before .bytes-of .ensures .0) (c .before .before .put-ok .ensures)
+    let e = c .before .before .before .before .before .before .before .before .before .before .before .before in
+    let v = e .before .before .read-values in
+    let a = e .before .before .before .before .before .before .args in
+    let g = sym (v .ensures .good) ∙ not-false _ (e .if1 .left) in
+    rw (
+      answers-ok (a .h) (a .text .now) g _ (v .ensures .holds (subst T (sym g) tt)) (d .result) _ (d .ensures)
+          (c .before .before .before .before .before .before .if2 .left),
+      ← c .before .before .before .before .before .bytes-of .ensures .0,
+    )
+    (c .before .before .put-ok .ensures)
 
 pub answer-word-spec : {M : Type 1} → statement M
 answer-word-spec =

@@ -11,10 +11,11 @@ use Rattle.search.specs.Plan.{Fits}
 use Rattle.search.specs.ByRank.{tried}
 use Rattle.search.proofs.SearchSteps.{search-early, patterns-pos}
 use Rattle.prepare.specs.PlanOf.{planOf}
-use Rattle.osd.specs.As.{asBest}
-use Rattle.osd.specs.Inner.Chains.{slotOf, Tabled}
-use Rattle.osd.proofs.WeighTurn.{ne-pos}
-use Rattle.osd.proofs.SkipTurn.{over, made-more, at-first, at-after, next-slot, kept-start, kept-turn, room}
+use Rattle.candidates.specs.As.{asBest, mostCounted}
+use Rattle.parts.specs.Chains.{slotOf, Tabled}
+use Rattle.candidates.proofs.WeighSteps.{ne-pos}
+use Rattle.osd.specs.BestFrom.{bestFrom}
+use Rattle.osd.proofs.SkipSteps.{made-more, at-first, at-after, next-slot, kept-start, kept-turn, room}
 use borrow.Fn.Kinds.{In}
 use borrow.Fn.PlainCycle.{Measures, is, falls, and}
 use Rattle.osd.proofs.patterns.flip.Reads as flip
@@ -23,10 +24,10 @@ use Rattle.osd.proofs.patterns.+flip+keep.Lts-flip as flip-lts
 use Rattle.osd.proofs.patterns.keep.Reads as keep
 use Rattle.osd.proofs.patterns.keep.Kinds as keep-kinds
 use Rattle.osd.proofs.patterns.+flip+keep.Lts-keep as keep-lts
-use Rattle.osd.proofs.candidates.pattern.Reads as pattern-reads
-use Rattle.osd.proofs.chains.next_flip.Reads as next-flip-reads
-use Rattle.osd.proofs.chains.slot.Reads as slot-reads
-use Rattle.osd.proofs.flips.Flips.with.Reads as with-reads
+use Rattle.candidates.proofs.pattern.pattern.Reads as pattern-reads
+use Rattle.parts.proofs.chains.next_flip.Reads as next-flip-reads
+use Rattle.parts.proofs.chains.slot.Reads as slot-reads
+use Rattle.parts.proofs.flips.Flips.with.Reads as with-reads
 use Rattle.osd.proofs.patterns.+flip+keep.{statement}
 use Rattle.osd.proofs.patterns.+flip+keep.Tie.{close}
 
@@ -101,12 +102,13 @@ flip-keep-requires t c κs =
 flip-returns : (t : ℕ) → flip-lts.Need-returns (flip-claims t) (flip-at t) flip.Post
 flip-returns t c =
     let a = c .before .before .before .before .before .args in
-    c .keep .ensures ∙ ap (λ (w : ℕ). over (a .p) (a .rank .0 + 1) (a .may - 1) w (asBest (a .best))) (c .before .before .with .ensures .0)
+    c .keep .ensures ∙ ap (λ (w : ℕ). bestFrom (a .p) (a .rank .0 + 1) (a .may - 1) w (asBest (a .best)))
+    (c .before .before .with .ensures .0)
 
 abbrev keep-Inv-loop : keep-lts.InvT-loop
 keep-Inv-loop p rank may flips symbols parts chains part size b₀ end₀ b end =
     (rank .0 ≤ end .0) × (end .0 ≤ p .size) × (may ≡ 1 → rank .0 < end .0 → slotOf (getD parts (end .0 - 1) 0) ≡ slotOf part)
-    × ((x : Best) → asBest b₀ ≡ tried (planOf p) (flips .ranks) x → asBest b ≡ over p (end .0) may (flips .ranks) x)
+    × ((x : Best) → asBest b₀ ≡ tried (planOf p) (flips .ranks) x → asBest b ≡ bestFrom p (end .0) may (flips .ranks) x)
 
 abbrev keep-μ-loop : keep-lts.MeasureT-loop
 keep-μ-loop p rank may flips symbols parts chains part size b₀ end₀ b end = end .0
@@ -114,7 +116,7 @@ keep-μ-loop p rank may flips symbols parts chains part size b₀ end₀ b end =
 -- what a pattern asks, with room for one more candidate
 one : (t : ℕ) (c : keep-lts.Start (keep-claims t) (keep-at t) keep.Post keep-Inv-loop keep-μ-loop)
     → Fits (planOf (c .args .p)) × (c .args .symbols .now ≡ c .args .p .symbols) × (c .args .flips .ranks < 2 ^ c .args .p .size)
-    × (c .args .best .count < 100000)
+    × (c .args .best .count < mostCounted)
 one t c =
     let a = c .args in
     let pre = c .pre .1 in
@@ -127,7 +129,7 @@ keep-returns : (t : ℕ) → keep-lts.Need-returns (keep-claims t) (keep-at t) k
 keep-returns t c =
     let a = c .before .before .args in
     c .pattern .ensures
-    ∙ sym (ap (λ (n : ℕ). over (a .p) (a .rank .0) n (a .flips .ranks) (asBest (a .best))) (c .before .if1 .taken)
+    ∙ sym (ap (λ (n : ℕ). bestFrom (a .p) (a .rank .0) n (a .flips .ranks) (asBest (a .best))) (c .before .if1 .taken)
     ∙ search-early (λ i. i) (tried (planOf (a .p))) (a .p .size - a .rank .0) (a .rank .0) (a .flips .ranks) (asBest (a .best)))
 
 keep-pattern-requires-2 : (t : ℕ) → keep-lts.Need-pattern-requires-2 (keep-claims t) (keep-at t) keep.Post keep-Inv-loop keep-μ-loop
@@ -178,7 +180,7 @@ keep-flip-requires t c κs =
     let low : r < a .p .size = omega (arith, l .inv .1) in
     let more = ne-pos (a .may) (c .before .before .before .before .before .before .before .before .if1 .left) in
     let e = l .inv .3 (asBest (a .best)) (c .before .before .before .before .before .before .before .pattern2 .ensures)
-    ∙ ap (λ (n : ℕ). over (a .p) n (a .may) (a .flips .ranks) (asBest (a .best))) back in
+    ∙ ap (λ (n : ℕ). bestFrom (a .p) n (a .may) (a .flips .ranks) (asBest (a .best))) back in
     let fits = room (a .p) (a .rank .0) r (a .may) (a .flips .ranks) _ _ (omega arith) low (λ z. omega arith) (pre .1 .1) e in (
       omega arith,
       (
@@ -233,7 +235,7 @@ keep-returns-2 t c =
     let l = c .before .before .before .loop in
     let end : l .end .0 ≡ a .rank .0 = omega (arith, l .inv .0, c .if2 .left) in
     l .inv .3 (asBest (a .best)) (c .before .before .before .before .before .before .pattern2 .ensures)
-    ∙ ap (λ (n : ℕ). over (a .p) n (a .may) (a .flips .ranks) (asBest (a .best))) end
+    ∙ ap (λ (n : ℕ). bestFrom (a .p) n (a .may) (a .flips .ranks) (asBest (a .best))) end
 
 pub +flip+keep-spec : {M : Type 1} → statement M
 +flip+keep-spec = close μ-flip μ-keep (λ t. flip-lts.spec (flip-claims t)

@@ -13,15 +13,16 @@ use Rattle.search.specs.ByRank.{tried, rankSearched}
 use Rattle.search.proofs.PartLaws.{part-start}
 use Rattle.prepare.specs.PlanOf.{planOf}
 use Rattle.prepare.specs.declared.Prepared.{Prepared}
-use Rattle.osd.specs.Inner.Parts.{PartsOf, told}
-use Rattle.osd.specs.Inner.Chains.{Chained, Tabled}
+use Rattle.candidates.specs.As.{mostCounted}
+use Rattle.parts.specs.Parts.{PartsOf, told}
+use Rattle.parts.specs.Chains.{Chained, Tabled}
 use Rattle.osd.proofs.PatternCount.{patterns-most}
-use Rattle.osd.proofs.SkipTurn.{tabled-made}
+use Rattle.osd.proofs.SkipSteps.{tabled-made}
 use Rattle.osd.proofs.patterns.search.Statement.{statement}
 use Rattle.osd.proofs.patterns.search.Tie as tie
 
 -- from nothing seen there is room in the count
-room : (size may : ℕ) (x : Best) → size ≤ 61 → may ≤ 3 → x ≡ none → x .count + patterns (size - 0) may ≤ 100000
+room : (size may : ℕ) (x : Best) → size ≤ 61 → may ≤ 3 → x ≡ none → x .count + patterns (size - 0) may ≤ mostCounted
 room size may x h l e = omega (arith, ap (λ (y : Best). y .count) e, patterns-most (size - 0) may (omega arith) l)
 
 -- where a flip is allowed all ranks are linked

@@ -7,7 +7,7 @@ use native.Mathlib.Decide.{ℕ-discrete}
 use native.Mathlib.Omega.{arith}
 use lib.ListN.{length, getD, set, length-set}
 use lib.Seq.{getD-set-same, getD-set-other}
-use Rattle.codes.specs.Word.{bitOf}
+use Rattle.codes.specs.Codeword.{bitOf}
 use Rattle.codes.proofs.WordLaws.{bit-shift, bit-lt}
 use Rattle.codes.proofs.WordSteps.{wordFrom, word-from-none, word-from-all, word-from-more, word-from-lt}
 use Rattle.ranks.specs.Places.{placeIn}
@@ -26,7 +26,8 @@ from-more n F i l pos le fit f = record {
   full = length-set l (i - 1) (F (i - 1)) ∙ f .full;
   right = λ j lj ln.
       by-cases (ℕ-discrete j (i - 1))
-      (λ same. ap (λ (u : ℕ). getD (set l (i - 1) (F (i - 1))) u 0) same ∙ getD-set-same l (i - 1) (F (i - 1)) 0 (omega (arith, f .full)) ∙ ap F (sym same))
+      (λ same. ap (λ (u : ℕ). getD (set l (i - 1) (F (i - 1))) u 0) same ∙ getD-set-same l (i - 1) (F (i - 1)) 0 (omega (arith, f .full))
+      ∙ ap F (sym same))
       (λ other. getD-set-other l (i - 1) j (F (i - 1)) 0 other ∙ f .right j (omega arith) ln);
 }
 
@@ -62,7 +63,8 @@ placed : (c : tie.In-loop Inv-loop μ-loop) → placeIn (c .before .before .args
 placed c = c .before .before .pre .1 (c .before .loop .i - 1) (omega arith)
 
 fits : (c : tie.In-loop Inv-loop μ-loop)
-    → c .before .loop .bits * 2 + c .before .before .args .hards / 2 ^ placeIn (c .before .before .args .t1) (c .before .loop .i - 1) % 2 < 2 ^ 63
+    → c .before .loop .bits * 2 + c .before .before .args .hards / 2 ^ placeIn (c .before .before .args .t1)
+    (c .before .loop .i - 1) % 2 < 2 ^ 63
 fits c =
     let a = c .before .before .args in
     let l = c .before .loop in

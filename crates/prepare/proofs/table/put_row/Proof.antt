@@ -92,7 +92,8 @@ returns : tie.Need-returns Inv-loop μ-loop
 returns c =
     let s = c .before .before in
     let l = c .before .loop in
-    puts-row (s .args .n) (s .args .from) (s .args .own) (s .args .q) (s .args .zech .now) (s .args .list .now) (s .args .rows .now) (l .rows)
+    puts-row (s .args .n) (s .args .from) (s .args .own) (s .args .q) (s .args .zech .now) (s .args .list .now) (s .args .rows .now)
+    (l .rows)
     (omega arith) (s .pre .0 .5) (s .pre .1 .0) (s .pre .1 .1) (l .p) (omega arith) (l .inv .1)
 
 pub put-row-spec : {M : Type 1} → statement M

@@ -11,7 +11,7 @@ use Rattle.field.specs.Field.{alphaTo, lengthOf}
 use Rattle.field.proofs.FieldLaws.{laws}
 use Rattle.codes.specs.Lagrange.{Places}
 use Rattle.codes.proofs.ShapeLaws.{length-small, length-large}
-use Rattle.gf.specs.Exponent.{Powers, Zech}
+use Rattle.exponents.specs.Exponent.{Powers, Zech}
 use Rattle.ranks.specs.Places.{placeIn}
 use Rattle.prepare.specs.Inner.Exponents.{cellExponent}
 use Rattle.prepare.specs.Inner.Table.{CellExponents, PutsColumn, Numbered, Cells}

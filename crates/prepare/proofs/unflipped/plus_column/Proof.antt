@@ -47,7 +47,8 @@ loop-again c =
     let x = getD (a .symbols .now) (l .q * 63 + a .j) 0 in
     let same = l .inv .1 .old (l .q) (λ k lk e. omega arith) in (
       omega arith,
-      written-more (λ k. k) _ (a .t3) (l .q) (l .sums) (l .inv .1) (λ k lk e. omega arith) (omega (arith, s .pre .1)) (getD (l .sums) (l .q) 0 ⊕ x)
+      written-more (λ k. k) _ (a .t3) (l .q) (l .sums) (l .inv .1) (λ k lk e. omega arith) (omega (arith, s .pre .1))
+          (getD (l .sums) (l .q) 0 ⊕ x)
           (ap (λ (u : ℕ). u ⊕ x) same),
     )
 

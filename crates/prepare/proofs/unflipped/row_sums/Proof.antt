@@ -7,7 +7,7 @@ use native.Mathlib.Nat.{eq-zero-or-pos}
 use native.Mathlib.Omega.{arith}
 use lib.Count.{trailingZeros}
 use lib.Pow.{pow-pos}
-use Rattle.frame.proofs.ShapeLaws.{one-shifted}
+use Rattle.words.proofs.ShapeLaws.{one-shifted}
 use Rattle.search.proofs.LowestBit.{turn-low, turn-less}
 use Rattle.prepare.proofs.RowSumLaws.{Summed, summed-none, summed-more, summed-all}
 use Rattle.prepare.proofs.unflipped.row_sums.Statement.{statement}
@@ -24,7 +24,8 @@ some : (c : tie.In-loop Inv-loop μ-loop) → 0 < c .before .loop .rest
 some c = ⊎-elim (λ e. absurd (c .loop-test .taken e)) (λ l. l) (eq-zero-or-pos (c .before .loop .rest))
 
 near : (c : tie.In-loop Inv-loop μ-loop) → trailingZeros 64 (c .before .loop .rest) < 63
-near c = omega (arith, turn-low 64 (c .before .before .args .size) (c .before .loop .rest) (some c) (c .before .loop .inv .low) (omega arith))
+near c =
+    omega (arith, turn-low 64 (c .before .before .args .size) (c .before .loop .rest) (some c) (c .before .loop .inv .low) (omega arith))
 
 shl-rest : tie.Need-shl-rest Inv-loop μ-loop
 shl-rest c = omega arith

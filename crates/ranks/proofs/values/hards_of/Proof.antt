@@ -46,7 +46,8 @@ add-hards c =
     let s = c .before .before .before .before in let soft = s .args .soft .now in
     record {
       fits = next-fits soft (l .p) (l .hards) (l .inv) _ (c .hard-decision .result) (c .before .before .loop-test .taken)
-          (toZ-ofZ w8 (getD soft (l .p - 1) (pos 0)) (record { sfits = c .before .hard-decision-arg .given })) (c .hard-decision .ensures) (s .pre);
+          (toZ-ofZ w8 (getD soft (l .p - 1) (pos 0)) (record { sfits = c .before .hard-decision-arg .given })) (c .hard-decision .ensures)
+          (s .pre);
     }
 
 loop-less : tie.Need-loop-less Inv-loop μ-loop

@@ -11,7 +11,9 @@ reliabilities-of-requires : tie.Need-reliabilities-of-requires
 reliabilities-of-requires c κs = search needs
 
 returns : tie.Need-returns
-returns c = received (c .before .before .args .soft .now) (c .before .hards-of .result) _ (c .before .hards-of .ensures) (c .reliabilities-of .ensures)
+returns c =
+    received (c .before .before .args .soft .now) (c .before .hards-of .result) _ (c .before .hards-of .ensures)
+    (c .reliabilities-of .ensures)
 
 pub receive-spec : {M : Type 1} → statement M
 receive-spec = tie.close (tie.spec hards-of-requires reliabilities-of-requires returns)

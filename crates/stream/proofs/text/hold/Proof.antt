@@ -1,4 +1,4 @@
--- `text::hold` meets its contract. The loop's invariant: i bytes of the part are copied behind those that were held. Assumes nothing.
+-- `text::hold` meets its contract. The loop's invariant: i bytes of the piece are copied behind those that were held. Assumes nothing.
 use mathlib.Core.Path.{_≡_, ap, sym, _∙_}
 use mathlib.Core.Logic.{by-cases}
 use mathlib.Core.List.{List, _++_}
@@ -14,55 +14,57 @@ use Rattle.stream.specs.Inner.Held.{Holds}
 use Rattle.stream.proofs.text.hold.Statement.{statement}
 use Rattle.stream.proofs.text.hold.Tie as tie
 
-record Copied (before : List ℕ) (held : ℕ) (part : List ℕ) (count : ℕ) (line : List ℕ) (i : ℕ) : Type 0 where
+record Copied (before : List ℕ) (held : ℕ) (piece : List ℕ) (count : ℕ) (line : List ℕ) (i : ℕ) : Type 0 where
   at : i ≤ count
   room : held + count ≤ length before
-  there : count ≤ length part
-  value : line ≡ paste before held part i
+  there : count ≤ length piece
+  value : line ≡ paste before held piece i
   size : length line ≡ length before
 
-copied-more : (before : List ℕ) (held : ℕ) (part : List ℕ) (count : ℕ) (line : List ℕ) (i : ℕ) → Copied before held part count line i → i < count
-    → Copied before held part count (set line (held + i) (getD part i 0)) (i + 1)
-copied-more before held part count line i k h =
-    let e : set line (held + i) (getD part i 0) ≡ paste before held part (i + 1) =
-    ap (λ (l : List ℕ). set l (held + i) (getD part i 0)) (k .value)
-    ∙ paste-suc before held part i 0 (omega (arith, k .room)) (omega (arith, k .there)) ∙ ap (paste before held part) (sym (add-one i))
+copied-more : (before : List ℕ) (held : ℕ) (piece : List ℕ) (count : ℕ) (line : List ℕ) (i : ℕ) → Copied before held piece count line i
+    → i < count
+    → Copied before held piece count (set line (held + i) (getD piece i 0)) (i + 1)
+copied-more before held piece count line i k h =
+    let e : set line (held + i) (getD piece i 0) ≡ paste before held piece (i + 1) =
+    ap (λ (l : List ℕ). set l (held + i) (getD piece i 0)) (k .value)
+    ∙ paste-suc before held piece i 0 (omega (arith, k .room)) (omega (arith, k .there)) ∙ ap (paste before held piece) (sym (add-one i))
     in
     record {
       at = omega arith;
       room = k .room;
       there = k .there;
       value = e;
-      size = ap length e ∙ length-paste before held part (i + 1) (omega (arith, k .room)) (omega (arith, k .there));
+      size = ap length e ∙ length-paste before held piece (i + 1) (omega (arith, k .room)) (omega (arith, k .there));
     }
 
--- as much of the part as there is room for
-take-least : (n : ℕ) (part : List ℕ) → take (min n (length part)) part ≡ take n part
-take-least n part =
-    by-cases (decLt n (length part)) (λ h. let e : min n (length part) ≡ n = omega arith in ap (λ (k : ℕ). take k part) e)
-    (λ h. take-all (min n (length part)) part (omega arith) ∙ sym (take-all n part (omega arith)))
+-- as much of the piece as there is room for
+take-least : (n : ℕ) (piece : List ℕ) → take (min n (length piece)) piece ≡ take n piece
+take-least n piece =
+    by-cases (decLt n (length piece)) (λ h. let e : min n (length piece) ≡ n = omega arith in ap (λ (k : ℕ). take k piece) e)
+    (λ h. take-all (min n (length piece)) piece (omega arith) ∙ sym (take-all n piece (omega arith)))
 
-copied-all : (before : List ℕ) (held : ℕ) (part : List ℕ) (count : ℕ) (line : List ℕ) (i : ℕ) → Copied before held part count line i → count ≤ i
-    → count ≡ min (513 - held) (length part) → held ≤ 513 → length before ≡ 513 → Holds before held part (held + count) line
-copied-all before held part count line i k h c l s =
+copied-all : (before : List ℕ) (held : ℕ) (piece : List ℕ) (count : ℕ) (line : List ℕ) (i : ℕ) → Copied before held piece count line i
+    → count ≤ i
+    → count ≡ min (513 - held) (length piece) → held ≤ 513 → length before ≡ 513 → Holds before held piece (held + count) line
+copied-all before held piece count line i k h c l s =
     let all : i ≡ count = omega (arith, k .at) in
     let front : length (take held before) ≡ held = length-take-le held before (omega arith) in
     let whole : length (take held before) + (513 - held) ≡ 513 = omega arith in
     record {
       text =
-          ap (take (held + count)) (k .value ∙ ap (paste before held part) all)
-          ∙ take-paste before held part count (omega arith) (k .there)
-          ∙ ap (λ (l : List ℕ). take held before ++ l) (ap (λ (n : ℕ). take n part) c ∙ take-least (513 - held) part)
-          ∙ sym (take-append-add (take held before) part (513 - held)) ∙ ap (λ (n : ℕ). take n (take held before ++ part)) whole;
+          ap (take (held + count)) (k .value ∙ ap (paste before held piece) all)
+          ∙ take-paste before held piece count (omega arith) (k .there)
+          ∙ ap (λ (l : List ℕ). take held before ++ l) (ap (λ (n : ℕ). take n piece) c ∙ take-least (513 - held) piece)
+          ∙ sym (take-append-add (take held before) piece (513 - held)) ∙ ap (λ (n : ℕ). take n (take held before ++ piece)) whole;
       most = omega (arith, k .room);
       size = k .size ∙ s;
     }
 
 abbrev Inv-loop : tie.InvT-loop
-Inv-loop line₀ held part count i₀ line i = Copied line₀ held part count line i
+Inv-loop line₀ held piece count i₀ line i = Copied line₀ held piece count line i
 
 abbrev μ-loop : tie.MeasureT-loop
-μ-loop line₀ held part count i₀ line i = count - i
+μ-loop line₀ held piece count i₀ line i = count - i
 
 sub-least : tie.Need-sub-least Inv-loop μ-loop
 sub-least c = omega arith
@@ -78,7 +80,7 @@ loop-holds c =
       at = omega arith;
       room = omega arith;
       there = omega arith;
-      value = paste-zero (a .line .now) (a .held) (a .part .now);
+      value = paste-zero (a .line .now) (a .held) (a .piece .now);
       size = search needs;
     }
 
@@ -101,7 +103,7 @@ loop-again : tie.Need-loop-again Inv-loop μ-loop
 loop-again c =
     let a = c .before .before .before .before .before .before .args in
     let l = c .before .before .loop in
-    copied-more (a .line .now) (a .held) (a .part .now) _ (l .line) (l .i) (l .inv) (c .before .loop-test .taken)
+    copied-more (a .line .now) (a .held) (a .piece .now) _ (l .line) (l .i) (l .inv) (c .before .loop-test .taken)
 
 add-result : tie.Need-add-result Inv-loop μ-loop
 add-result c = let k = c .before .loop .inv in omega arith
@@ -113,7 +115,7 @@ returns : tie.Need-returns Inv-loop μ-loop
 returns c =
     let s = c .before .before .before .before .before in
     let l = c .before .loop in
-    copied-all (s .args .line .now) (s .args .held) (s .args .part .now) _ (l .line) (l .i) (l .inv) (c .loop-test .left)
+    copied-all (s .args .line .now) (s .args .held) (s .args .piece .now) _ (l .line) (l .i) (l .inv) (c .loop-test .left)
     (c .before .before .least .ensures) (s .pre .0) (s .pre .1)
 
 pub hold-spec : {M : Type 1} → statement M

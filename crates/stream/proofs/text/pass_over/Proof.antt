@@ -34,8 +34,12 @@ loop-less c = omega arith
 loop-again : tie.Need-loop-again Inv-loop μ-loop
 loop-again c =
     let a = c .before .before .before .before .before .args in
-    let l = c .before .before .before .loop in
-    (omega arith, omega arith, clear-join (a .block .now) (a .from) (l .i) (l .inv .2) (l .i + 16) (c .before .newline-near .ensures (c .if1 .left)))
+    let l = c .before .before .before .loop in (
+      omega arith,
+      omega arith,
+      clear-join (a .block .now) (a .from) (l .i) (l .inv .2) (l .i + 16)
+          (c .before .newline-near .ensures (c .if1 .left)),
+    )
 
 returns-2 : tie.Need-returns-2 Inv-loop μ-loop
 returns-2 c = c .before .loop .inv

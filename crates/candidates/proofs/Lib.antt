@@ -1,0 +1,2 @@
+pub mod WeighSteps
+pub mod PatternSteps

@@ -1,0 +1,36 @@
+-- The calls encode and read as functions from what they are given to what they give back: the checks, then the word of a message, the
+-- message of a word. Each is the one function that its contract permits (proofs/CalledLaws). Everything here computes.
+--   encodingOf m t s message before   what encode gives back
+--   readingOf m t s bytes             what read gives back
+-- Assumes nothing.
+use mathlib.Core.Bool.{Bool, cond, _&&_}
+use mathlib.Core.List.{List}
+use Prim.Native.Nat.{ℕ, zero, suc, _-_, _/_, _^_}
+use lib.Dec.{ltb, eqb}
+use lib.ListN.{length}
+use Rattle.field.specs.Field.{lengthOf}
+use Rattle.codes.specs.Code.{parityOf}
+use Rattle.codes.specs.Generator.{systematic}
+use Rattle.words.specs.Packing.{written, wordIn}
+use Rattle.frame.specs.Refusal.{encodeRefusal, readRefusal}
+use Rattle.codec.specs.Call.{says, Encoding}
+use Rattle.codec.specs.declared.Reading.{Reading}
+
+-- what encode gives back after its checks gave N
+abbrev pub encodingAfter : ℕ → (m t message : ℕ) → List ℕ → Encoding
+encodingAfter zero m t message before = record { answer = 0; after = written m (systematic m t message) before }
+encodingAfter (suc N) m t message before = record { answer = suc N; after = before }
+
+unfoldable pub encodingOf : (m t s message : ℕ) → List ℕ → Encoding
+encodingOf m t s message before = encodingAfter (encodeRefusal m t s message (length before)) m t message before
+
+-- no pad bit and no unsent bit is 1, and the word of the message at the top is the word itself
+abbrev pub readable : (m t s w : ℕ) → Bool
+readable m t s w = ltb w (2 ^ (lengthOf m - s)) && eqb (systematic m t (w / 2 ^ parityOf m t)) w
+
+abbrev pub readingAfter : ℕ → (m t s w : ℕ) → Reading
+readingAfter zero m t s w = cond (readable m t s w) (says 0 (w / 2 ^ parityOf m t)) (says 8 0)
+readingAfter (suc N) m t s w = says (suc N) 0
+
+unfoldable pub readingOf : (m t s : ℕ) → List ℕ → Reading
+readingOf m t s bytes = readingAfter (readRefusal m t s (length bytes)) m t s (wordIn m bytes)

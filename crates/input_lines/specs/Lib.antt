@@ -1,0 +1,4 @@
+pub mod Line
+pub mod Header
+pub mod WordLine
+pub mod Inner

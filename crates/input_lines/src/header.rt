@@ -1,0 +1,71 @@
+// The first line of the input, as the header that it is.
+ghost use mathlib.Core.Path.{_≡_};
+ghost use mathlib.Core.Bool.{_&&_, not};
+ghost use Rattle.input_lines.specs.Header.{headerOf, wrongHeader};
+ghost use Rattle.input_lines.specs.Inner.Scan.{holdsNumber};
+use crate::item::Item;
+use crate::item::holds_number;
+use crate::item::item_at;
+
+// m, t, s and order; all 0 where the header is wrong.
+pub struct Header {
+    pub good: bool,
+    pub m: u16,
+    pub t: u16,
+    pub s: u16,
+    pub order: u16,
+}
+
+fn wrong() -> Header
+    ensures { λ r. ⌜ r ≡ wrongHeader ⌝ }
+{
+    Header {
+        good: false,
+        m: 0,
+        t: 0,
+        s: 0,
+        order: 0,
+    }
+}
+
+// A number with no minus.
+fn is_plain(item: Item) -> bool
+    ensures { λ r. ⌜ r ≡ (not (item .minus) && holdsNumber item) ⌝ }
+{
+    !item.minus && holds_number(item)
+}
+
+pub fn read_header(text: &[u8]) -> Header
+    ensures { λ r. ⌜ r ≡ headerOf (now (text .entry)) ⌝ }
+{
+    if 512 < text.len() {
+        return wrong();
+    }
+    // order is 1 where it is not given
+    let mut numbers = [0u16, 0, 0, 1];
+    let mut count = 0;
+    let mut at = 0;
+    while at <= text.len() {
+        let found = item_at(text, at);
+        let item = found.item;
+        if !is_plain(item) {
+            return wrong();
+        }
+        if count == 4 {
+            return wrong();
+        }
+        numbers[count] = item.number;
+        count += 1;
+        at = found.end + 1;
+    }
+    if count < 3 {
+        return wrong();
+    }
+    Header {
+        good: true,
+        m: numbers[0],
+        t: numbers[1],
+        s: numbers[2],
+        order: numbers[3],
+    }
+}

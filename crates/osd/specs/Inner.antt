@@ -1,3 +1,0 @@
--- What only the contracts of the inner functions cite. Assumes nothing.
-pub mod Parts
-pub mod Chains

@@ -1,0 +1,4 @@
+pub mod Computing
+pub mod SettledWords
+pub mod SettledShown
+pub mod WholeExampleShown

@@ -1,0 +1,3 @@
+pub mod SettledCalls
+pub mod Settled
+pub mod WholeExample

@@ -1,0 +1,4 @@
+pub mod ShapeLaws
+pub mod PackingLaws
+pub mod PackedBits
+pub mod Anchors
