@@ -15,7 +15,7 @@ use Rattle.words.specs.Packing.{wordIn}
 use Rattle.frame.specs.Refusal.{encodeRefusal, readRefusal}
 use Rattle.codec.specs.Encode.{EncodeAnswers}
 use Rattle.codec.specs.Read.{ReadAnswers}
-use Rattle.codec.specs.Call.{says}
+use Rattle.codec.specs.GivenBack.{says}
 use Rattle.codec.proofs.CodecLaws.{encode-refuses, encode-writes, read-refuses, read-other, read-takes}
 use Rattle.codec.specs.Called.{encodingAfter, encodingOf, readingAfter, readingOf}
 

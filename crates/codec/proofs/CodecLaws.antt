@@ -20,7 +20,7 @@ use Rattle.frame.specs.Refusal.{encodeRefusal, readRefusal}
 use Rattle.frame.proofs.RefusalLaws.{EncodePassed, ReadPassed, encode-passed, read-passed}
 use Rattle.codec.specs.Encode.{EncodeAnswers}
 use Rattle.codec.specs.Read.{ReadAnswers}
-use Rattle.codec.specs.Call.{says}
+use Rattle.codec.specs.GivenBack.{says}
 
 -- the message moved up by the parity bits is a word of n bits
 module _ (m t M : ℕ) (k : Known m t) (h : M < 2 ^ dimensionOf m t) where

@@ -15,7 +15,7 @@ use Rattle.frame.proofs.RefusalLaws.{EncodePassed, ReadPassed, encode-passed, r
 use Rattle.frame.proofs.RefusalSteps.{encode-passes, read-passes}
 use Rattle.codec.specs.Encode.{Encoded, EncodeAnswers, refused, encoded}
 use Rattle.codec.specs.Read.{Readable, ReadAnswers}
-use Rattle.codec.specs.Call.{says}
+use Rattle.codec.specs.GivenBack.{says}
 use Rattle.codec.specs.declared.Reading.{Reading}
 use Rattle.codec.proofs.CodecOneAnswer.{read-one-answer}
 

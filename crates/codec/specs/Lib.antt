@@ -1,4 +1,4 @@
-pub mod Call
+pub mod GivenBack
 pub mod Encode
 pub mod Read
 pub mod Called

@@ -12,7 +12,7 @@ use Rattle.codes.specs.Code.{parityOf}
 use Rattle.codes.specs.Codeword.{Codeword}
 use Rattle.words.specs.Packing.{wordIn}
 use Rattle.frame.specs.Refusal.{readRefusal}
-use Rattle.codec.specs.Call.{says}
+use Rattle.codec.specs.GivenBack.{says}
 use Rattle.codec.specs.declared.Reading.{Reading}
 
 -- 8 otherwise: "the word is no codeword, or its pad bit or an unsent bit is 1"

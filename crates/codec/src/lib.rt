@@ -1,6 +1,6 @@
 // The encode call and the read call: for any input whatever, the paper's one answer.
 ghost use mathlib.Core.Path.{_≡_};
-ghost use Rattle.codec.specs.Call.{says};
+ghost use Rattle.codec.specs.GivenBack.{says};
 ghost use Rattle.codec.specs.Encode.{EncodeAnswers};
 ghost use Rattle.codec.specs.Read.{ReadAnswers};
 use crate::parity::parity_bits;

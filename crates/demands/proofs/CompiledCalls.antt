@@ -17,7 +17,7 @@ use Rattle.decode.specs.Call.{Call, Result}
 use Rattle.decode.proofs.CalledLaws.{answers-as-result}
 use Rattle.decode.proofs.decode.Kinds as decode-kinds
 use Rattle.decode.proofs.decode.Reads as decode-reads
-use Rattle.codec.specs.Call.{Encoding}
+use Rattle.codec.specs.GivenBack.{Encoding}
 use Rattle.demands.specs.Ours.{ours}
 use Rattle.codec.proofs.CalledLaws.{encoding-answers, reading-answers}
 

@@ -11,7 +11,7 @@ use Rattle.frame.specs.Refusal.{encodeRefusal, readRefusal}
 use Rattle.frame.proofs.RefusalLaws.{encode-known}
 use Rattle.codec.specs.Encode.{EncodeAnswers, refused, encoded}
 use Rattle.codec.specs.Read.{ReadAnswers}
-use Rattle.codec.specs.Call.{says, Encoding}
+use Rattle.codec.specs.GivenBack.{says, Encoding}
 use Rattle.codec.specs.declared.Reading.{Reading}
 use Rattle.codec.proofs.RoundTrip.{encode-then-read}
 use Rattle.codec.proofs.CalledLaws.{encoding-answers, reading-answers}

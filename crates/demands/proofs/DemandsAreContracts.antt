@@ -11,7 +11,7 @@ use Rattle.decode.specs.Decode.{Refused, DecodeAnswers}
 use Rattle.decode.specs.Call.{Call, Result, checksOf, refusedWith}
 use Rattle.decode.specs.Called.{resultOf}
 use Rattle.decode.proofs.CalledLaws.{Answers, result-answers, answers-as-result}
-use Rattle.codec.specs.Call.{Encoding}
+use Rattle.codec.specs.GivenBack.{Encoding}
 use Rattle.demands.specs.Calls.{Calls}
 use Rattle.demands.specs.Contracts.{Contracts}
 use Rattle.demands.specs.Demand1.{Demand1}

@@ -40,7 +40,7 @@ use Rattle.stream.proofs.step.Met as step-met
 use Rattle.stream.proofs.end.Statement as end-stated
 use Rattle.stream.proofs.end.Met as end-met
 use Rattle.lines.specs.Claims.{BlocksDoNotMatter, AnsweredAtOnce, NothingAfterTheEnd, NothingIsGuessed, UnfinishedLinesWait}
-use Rattle.lines.proofs.ClaimsShown as stream-shown
+use Rattle.lines.proofs.ClaimsShown as program-shown
 use Rattle.demands.specs.Claims.{ContractsMeetDemands, OursMeetDemands, DemandsAreContracts, NothingElseMeetsThem, SecondGivesThird}
 use Rattle.demands.specs.Claims.{EqualityIsNotPromised}
 use Rattle.demands.specs.Ours.{ours}
@@ -225,16 +225,16 @@ pub end-meets-its-contract : {M : Type 1} → end-stated.statement M
 end-meets-its-contract = end-met.met
 
 pub blocks-do-not-matter : BlocksDoNotMatter
-blocks-do-not-matter = stream-shown.blocks-do-not-matter
+blocks-do-not-matter = program-shown.blocks-do-not-matter
 
 pub answered-at-once : AnsweredAtOnce
-answered-at-once = stream-shown.answered-at-once
+answered-at-once = program-shown.answered-at-once
 
 pub nothing-after-the-end : NothingAfterTheEnd
-nothing-after-the-end = stream-shown.nothing-after-the-end
+nothing-after-the-end = program-shown.nothing-after-the-end
 
 pub nothing-is-guessed : NothingIsGuessed
-nothing-is-guessed = stream-shown.nothing-is-guessed
+nothing-is-guessed = program-shown.nothing-is-guessed
 
 pub unfinished-lines-wait : UnfinishedLinesWait
-unfinished-lines-wait = stream-shown.unfinished-lines-wait
+unfinished-lines-wait = program-shown.unfinished-lines-wait

@@ -6,7 +6,7 @@ use Prim.Native.Nat.{ℕ, _<_}
 use lib.ListN.{getD}
 use Rattle.codec.specs.Encode.{EncodeAnswers}
 use Rattle.codec.specs.Read.{ReadAnswers}
-use Rattle.codec.specs.Call.{says}
+use Rattle.codec.specs.GivenBack.{says}
 use Rattle.codec.specs.declared.Reading.{Reading}
 
 -- what encode wrote, read brings back

@@ -5,7 +5,7 @@
 -- Assumes nothing.
 use mathlib.Core.List.{List}
 use Prim.Native.Nat.{ℕ}
-use Rattle.codec.specs.Call.{Encoding}
+use Rattle.codec.specs.GivenBack.{Encoding}
 use Rattle.codec.specs.declared.Reading.{Reading}
 use Rattle.decode.specs.Call.{Call, Result}
 

@@ -11,7 +11,7 @@ use mathlib.Core.List.{List}
 use Prim.Native.Nat.{ℕ}
 use lib.ListN.{length}
 use Rattle.frame.specs.Refusal.{encodeRefusal, readRefusal}
-use Rattle.codec.specs.Call.{says, Encoding}
+use Rattle.codec.specs.GivenBack.{says, Encoding}
 use Rattle.codec.specs.declared.Reading.{Reading}
 use Rattle.decode.specs.Call.{Call, Result, checksOf, refusedWith}
 use Rattle.demands.specs.Calls.{Calls}

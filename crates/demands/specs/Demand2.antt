@@ -13,7 +13,7 @@ use Rattle.codes.specs.Code.{parityOf}
 use Rattle.codes.specs.Codeword.{Codeword}
 use Rattle.words.specs.Packing.{written, wordIn}
 use Rattle.frame.specs.Refusal.{encodeRefusal, readRefusal}
-use Rattle.codec.specs.Call.{says, Encoding}
+use Rattle.codec.specs.GivenBack.{says, Encoding}
 use Rattle.codec.specs.declared.Reading.{Reading}
 use Rattle.decode.specs.Call.{Call, checksOf}
 use Rattle.demands.specs.Calls.{Calls}

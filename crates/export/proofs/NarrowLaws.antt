@@ -23,7 +23,7 @@ use Rattle.frame.proofs.RefusalLaws.{known-by, encode-passed, read-passed, deco
 use Rattle.frame.proofs.RefusalSteps.{at-1, at-2, at-3}
 use Rattle.codec.specs.Encode.{EncodeAnswers}
 use Rattle.codec.specs.Read.{ReadAnswers}
-use Rattle.codec.specs.Call.{says}
+use Rattle.codec.specs.GivenBack.{says}
 use Rattle.codec.specs.declared.Reading.{Reading}
 use Rattle.decode.specs.Decode.{DecodeAnswers}
 use Rattle.decode.specs.Call.{refusing}

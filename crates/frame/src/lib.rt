@@ -4,7 +4,6 @@ pub mod refusal; // the numbers, and the first check that is met, in each call's
 pub use refusal::NO_CANDIDATE;
 pub use refusal::TAKEN;
 pub use refusal::UNREADABLE;
-pub use refusal::code_refusal;
 pub use refusal::decode_refusal;
 pub use refusal::encode_refusal;
 pub use refusal::header_refusal;

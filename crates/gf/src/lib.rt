@@ -1,5 +1,5 @@
 // Field arithmetic on elements of the fields of 2^m elements, m = 4, 5, 6 (document 01, "Fields and codes"): product, inverse and power.
-// No call uses it yet, decode divides by subtracting exponents; the reader of Req 02 will.
+// No call uses it yet: decode divides by subtracting exponents. The reader of Req 02 will want the product and the power.
 mod tables; // the inverses
 
 ghost use mathlib.Core.Path.{_≡_};

@@ -18,8 +18,7 @@ use lib.ListN.{length}
 use Rattle.field.proofs.TestLaws.{and-left, and-right, is-true, is-false, or-right}
 use Rattle.input_lines.specs.Line.{isDigit, allDigits, isNumber, numberFrom, numberOf}
 use Rattle.input_lines.specs.WordLine.{negative, afterMinus, isValue, signed, valueOf}
-use Rattle.input_lines.specs.Inner.Scan.{fresh, spoiled, withDigit, withMinus, pushed, scanned, endedBy, holdsNumber}
-use Rattle.input_lines.specs.Inner.ValuesRead.{holdsValue}
+use Rattle.input_lines.specs.Inner.Scan.{fresh, spoiled, withDigit, withMinus, pushed, scanned, endedBy, holdsNumber, holdsValue}
 use Rattle.input_lines.specs.declared.item.Item.{Item}
 
 abbrev item : Bool → ℕ → ℕ → Item

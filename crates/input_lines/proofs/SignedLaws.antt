@@ -16,8 +16,7 @@ use mir.Val.{SFits, toZ, ofZ}
 use mir.Facts.{sfits-widen}
 use mir.ValLaws.{toZ-pos, toZ-ofZ}
 use Rattle.field.proofs.TestLaws.{and-right}
-use Rattle.input_lines.specs.Inner.Scan.{holdsNumber}
-use Rattle.input_lines.specs.Inner.ValuesRead.{holdsValue}
+use Rattle.input_lines.specs.Inner.Scan.{holdsNumber, holdsValue}
 use Rattle.input_lines.specs.declared.item.Item.{Item}
 
 value-most : (p : Item) → T (holdsValue p) → p .number ≤ cond (p .minus) 128 127

@@ -14,8 +14,8 @@ use lib.IntN.{ℤ}
 use lib.ListN.{length, take, drop, set, length-set}
 use lib.Seq.{length-take-le, take-suc-set}
 use Rattle.input_lines.specs.WordLine.{isValue, signed, valueOf, valuesOf}
-use Rattle.input_lines.specs.Inner.Scan.{firstItem, foundAt}
-use Rattle.input_lines.specs.Inner.ValuesRead.{ValuesRead, holdsValue}
+use Rattle.input_lines.specs.Inner.Scan.{firstItem, foundAt, holdsValue}
+use Rattle.input_lines.specs.ValuesRead.{ValuesRead}
 use Rattle.input_lines.specs.declared.item.Found.{Found}
 use Rattle.input_lines.specs.declared.word_line.Line.{Line}
 use Rattle.input_lines.proofs.ScanLaws.{value-is, value-number, value-full}

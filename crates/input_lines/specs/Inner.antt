@@ -1,3 +1,2 @@
--- What only the contracts of this crate cite, and no paper speaks of. Assumes nothing.
+-- What only the contracts of the inner functions cite. Assumes nothing.
 pub mod Scan
-pub mod ValuesRead

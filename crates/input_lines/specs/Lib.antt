@@ -1,4 +1,5 @@
 pub mod Line
 pub mod Header
 pub mod WordLine
+pub mod ValuesRead
 pub mod Inner

@@ -1,5 +1,7 @@
 -- What each line prints, for texts of any length (document 01, "The program"). Everything here computes.
---   headerAnswer text   what the first line prints: nothing where words follow
+--   refusalOf h         the refusal that a header meets, 0 for none
+--   headerSays h        what a first line prints that is the header h: nothing where words follow
+--   headerAnswer text   what the first line prints
 --   goesOn text         words follow
 --   wordAnswer h text   what a word line prints under the header h
 -- Assumes nothing.

@@ -7,6 +7,6 @@ use Rattle.lines.specs.Awaited.{lineSays, phaseAfter}
 use Rattle.lines.specs.declared.phase.Phase.{Phase}
 use Rattle.lines.specs.declared.phase.Answered.{Answered}
 
-pub record Answers (phase : Phase) (text before : List ℕ) (r : Answered) (after : List ℕ) : Type 0 where
+pub record AnswersLine (phase : Phase) (text before : List ℕ) (r : Answered) (after : List ℕ) : Type 0 where
   pub next : r .phase ≡ phaseAfter phase text
   pub writes : Put (lineSays phase text) before (r .wrote) after

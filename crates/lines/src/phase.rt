@@ -1,7 +1,7 @@
 // What a finished line prints, and what is awaited after it.
 ghost use Prim.Native.Nat.{_≤_};
 ghost use lib.ListN.{length};
-ghost use Rattle.lines.specs.Finished.{Answers};
+ghost use Rattle.lines.specs.Finished.{AnswersLine};
 use crate::answer::answer_header;
 use crate::answer::answer_word;
 use input_lines::header::Header;
@@ -23,7 +23,7 @@ pub struct Answered {
 // The first line is the header: words follow, or the program ends.
 fn answer_first(text: &[u8], out: &mut [u8]) -> Answered
     requires { ⌜ 64 ≤ length (now out) ⌝ }
-    ensures { λ r. ⌜ Answers Phase.First (now (text .entry)) (now (out .entry)) r (now (out .exit)) ⌝ }
+    ensures { λ r. ⌜ AnswersLine Phase.First (now (text .entry)) (now (out .entry)) r (now (out .exit)) ⌝ }
 {
     let h = read_header(text);
     let wrote = answer_header(h, out);
@@ -42,7 +42,7 @@ fn answer_first(text: &[u8], out: &mut [u8]) -> Answered
 // Writes the answer to a line at the start of the output.
 pub fn answer(phase: Phase, text: &[u8], out: &mut [u8]) -> Answered
     requires { ⌜ 64 ≤ length (now out) ⌝ }
-    ensures { λ r. ⌜ Answers phase (now (text .entry)) (now (out .entry)) r (now (out .exit)) ⌝ }
+    ensures { λ r. ⌜ AnswersLine phase (now (text .entry)) (now (out .entry)) r (now (out .exit)) ⌝ }
 {
     match phase {
         Phase::First => answer_first(text, out),

@@ -9,11 +9,11 @@ use lib.Pow.{pow-lt}
 use Rattle.field.specs.Field.{_⊕_}
 use Rattle.field.proofs.XorLaws.{xor-lt}
 use Rattle.search.specs.Best.{Best}
-use Rattle.search.specs.Search.{patterns, bestOver}
+use Rattle.search.specs.Search.{patterns}
 use Rattle.search.specs.ByRank.{tried}
 use Rattle.search.specs.Part.{partOf, columnPart}
 use Rattle.search.proofs.PartLaws.{part-flip, part-drops}
-use Rattle.search.proofs.SearchSteps.{search-end, search-some, search-patterns, patterns-pos, patterns-some}
+use Rattle.search.proofs.SearchSteps.{search-end, search-some, search-patterns, patterns-some}
 use Rattle.search.proofs.SkipLaws.{Nowhere, search-run, last-nowhere, two-nowhere}
 use Rattle.prepare.specs.PlanOf.{planOf}
 use Rattle.prepare.specs.declared.Prepared.{Prepared}
@@ -22,7 +22,7 @@ use Rattle.parts.specs.declared.flips.Flips.{Flips}
 use Rattle.parts.specs.Parts.{PartsOf, told, Made}
 use Rattle.parts.specs.Chains.{slotOf, lastIn, Chained, Shut, At, Next, Tabled}
 use Rattle.parts.proofs.ChainLaws.{last-slot, last-none}
-use Rattle.osd.specs.BestFrom.{bestFrom}
+use Rattle.osd.specs.Inner.BestFrom.{bestFrom}
 use Rattle.osd.proofs.PatternCount.{tried-count, patterns-mono}
 
 module _ (p : Prepared) (parts chains : List ℕ) (tab : Tabled p parts chains) where

@@ -22,7 +22,7 @@ ghost use Rattle.prepare.specs.PlanOf.{planOf};
 ghost use Rattle.candidates.specs.As.{asBest, mostCounted};
 ghost use Rattle.parts.specs.Parts.{Made};
 ghost use Rattle.parts.specs.Chains.{Tabled};
-ghost use Rattle.osd.specs.BestFrom.{bestFrom};
+ghost use Rattle.osd.specs.Inner.BestFrom.{bestFrom};
 
 // How many ranks are linked in the chains: none where no flip is allowed, since nothing is looked up then.
 fn linked(size: u8, order: u8) -> usize

@@ -1,14 +1,12 @@
 -- The non-binary parts of the columns, as lists and as the flips that are made carry them. Everything but the record computes.
---   PartsOf symbols k l      l has the parts of the columns in the first k rows
---   RowAdded symbols q l m   m has the parts of l with those of row q
---   told p                   in how many rows the parts are told
---   Made p f                 f is flips of reliable ranks, with their part
+--   PartsOf symbols k l   l has the parts of the columns in the first k rows
+--   told p                in how many rows the parts are told
+--   Made p f              f is flips of reliable ranks, with their part
 -- Assumes nothing.
 use mathlib.Core.Path.{_≡_}
 use mathlib.Core.List.{List}
 use Prim.Native.Nat.{ℕ, _+_, _*_, _/_, _^_, _<_}
 use lib.ListN.{getD}
-use Rattle.field.specs.Field.{_⊕_}
 use Rattle.search.specs.Part.{partOver, partOf}
 use Rattle.prepare.specs.PlanOf.{planOf}
 use Rattle.prepare.specs.declared.Prepared.{Prepared}
@@ -16,9 +14,6 @@ use Rattle.parts.specs.declared.flips.Flips.{Flips}
 
 abbrev pub PartsOf : List ℕ → ℕ → List ℕ → Type 0
 PartsOf symbols k l = (j : ℕ) → j < 64 → getD l j 0 ≡ partOver (λ q. getD symbols (q * 63 + j) 0) k
-
-abbrev pub RowAdded : List ℕ → ℕ → List ℕ → List ℕ → Type 0
-RowAdded symbols q l m = (j : ℕ) → j < 64 → getD m j 0 ≡ getD l j 0 ⊕ getD symbols (q * 63 + j) 0 / 2 * 2 ^ (4 * q)
 
 -- t of the 2t rows: where the symbols of t rows are bits, so are all, which makes the test sharp (but for the bit in which rows overlap
 -- at m = 6), and no proof rests on it

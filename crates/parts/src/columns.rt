@@ -4,7 +4,8 @@ ghost use mathlib.Core.Path.{_≡_};
 ghost use Prim.Native.Nat.{_*_, _/_, _^_, _≤_, _<_};
 ghost use lib.ListN.{length, getD};
 ghost use Rattle.search.specs.Part.{partOver};
-ghost use Rattle.parts.specs.Parts.{PartsOf, RowAdded};
+ghost use Rattle.parts.specs.Parts.{PartsOf};
+ghost use Rattle.parts.specs.Inner.RowAdded.{RowAdded};
 use prepare::Symbols;
 
 // The part of each rank's column.

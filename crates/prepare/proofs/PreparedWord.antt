@@ -43,7 +43,7 @@ places-each m n a c long soft r got order o =
     subst (λ (u : ℕ). Places m u (placeIn order)) (sym long) (sorted-order m soft r order got n long small o .order .places)
 
 -- the parts, as the inner functions make them: what is by rank is made on the way
-pub record Parts (m t n : ℕ) (r : Received) (b : ByRank) (p : Prepared) : Type 0 where
+pub record Ingredients (m t n : ℕ) (r : Received) (b : ByRank) (p : Prepared) : Type 0 where
   pub size : p .size ≡ lengthOf m - 2 * t
   pub rows : p .rows ≡ 2 * t
   pub hards : unpacked (p .hards) 8 ≡ r .hards
@@ -55,7 +55,7 @@ pub record Parts (m t n : ℕ) (r : Received) (b : ByRank) (p : Prepared) : Type
   pub base : RowSums (p .symbols) (b .bits) (p .size) (p .base)
 
 module _ (m t : ℕ) (known : Known m t) (n : ℕ) (long : n ≡ lengthOf m) (soft : List ℤ) (short : length soft ≤ lengthOf m)
-    (r : Received) (got : Receives soft r) (b : ByRank) (p : Prepared) (parts : Parts m t n r b p) where
+    (r : Received) (got : Receives soft r) (b : ByRank) (p : Prepared) (given : Ingredients m t n r b p) where
   abbrev L : ℕ
   L = lengthOf m
 
@@ -74,8 +74,8 @@ module _ (m t : ℕ) (known : Known m t) (n : ℕ) (long : n ≡ lengthOf m) (so
   fit : 2 * t ≤ L
   fit = roots-fit m t known
 
-  made : Parts m t L r b p
-  made = subst (λ (u : ℕ). Parts m t u r b p) long parts
+  made : Ingredients m t L r b p
+  made = subst (λ (u : ℕ). Ingredients m t u r b p) long given
 
   sorted : Sorted m soft R
   sorted = sorted-order m soft r (p .order) got L refl small (made .order)

@@ -1,6 +1,6 @@
 // A word that is prepared: what stays for all patterns, made once a word.
 mod by_rank; // what is by position, by rank
-mod products; // as sums of exponents
+mod products; // products as sums of exponents
 mod table; // the symbol table
 mod unflipped; // the symbols of the unflipped pattern
 

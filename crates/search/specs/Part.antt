@@ -1,6 +1,6 @@
 -- The non-binary part of a pattern's symbols, all their bits but the lowest: of "that word is dropped at its first symbol other
 -- than 0 or 1" (document 01, "The search") what can be told of many patterns at once. Everything here computes.
---   partOver S n          the non-binary parts of S 0, .., S (n - 1), four bits apart and added without carries
+--   partOver S n        the non-binary parts of S 0, .., S (n - 1), four bits apart and added without carries
 --   partOf p k f        that of the pattern f in the first k rows
 --   columnPart p k j    that of the column of rank j
 -- Assumes nothing.

@@ -1,7 +1,7 @@
 -- What is shown of a codeword that was sent: each claim a type, each proved under the same name in proofs/ClaimsShown. b is the first
 -- root's exponent and r the number of consecutive roots: 1 and 2t for the codes of document 01.
 --   SmallestAreLeast   no choice of so many right places has a smaller sum than the smallest
---   SentWithMargin               what demand 3 supposes
+--   SentWithMargin     what demand 3 supposes
 --   OthersAreFarther   every other codeword is farther than the one sent
 --   SentIsNearest      the one sent is nearest, and nothing else is
 -- Assumes nothing.

@@ -6,7 +6,7 @@ use Rattle.codec.specs.Encode.{EncodeAnswers}
 use Rattle.decode.specs.Call.{Call, Result}
 use Rattle.decode.specs.Called.{resultOf}
 use Rattle.decode.proofs.CalledLaws.{Answers, result-answers}
-use Rattle.codec.specs.Call.{Encoding}
+use Rattle.codec.specs.GivenBack.{Encoding}
 use Rattle.codec.specs.Called.{encodingOf}
 use Rattle.settled.specs.SettledCalls.{lent, calling, clean, first, fifth, tied, flat, large}
 use Rattle.settled.specs.Settled.{giving, saying, settled, Each}

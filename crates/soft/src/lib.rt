@@ -1,1 +1,1 @@
-// Hard decisions, reliabilities, the order of positions and the soft distance: definitions in specs/, laws in proofs/, no code.
+// Hard decisions, reliabilities, the order of positions, the soft distance, candidates: definitions in specs/, laws in proofs/, no code.

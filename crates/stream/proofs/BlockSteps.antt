@@ -19,7 +19,7 @@ use Rattle.stream.specs.Stepped.{Ready, memoryOf, Steps}
 use Rattle.lines.specs.Claims.{NoNewline}
 use Rattle.stream.specs.Inner.Found.{Found}
 use Rattle.stream.specs.Inner.Held.{Holds}
-use Rattle.lines.specs.Finished.{Answers}
+use Rattle.lines.specs.Finished.{AnswersLine}
 use Rattle.stream.specs.Inner.Finished.{Finishes}
 use Rattle.stream.specs.declared.State.{State}
 use Rattle.lines.specs.declared.phase.Answered.{Answered}
@@ -62,7 +62,7 @@ held-short s line r = omega (arith, length-take (s .held) line, r .size)
 
 -- an answer that was written into 64 bytes has no more
 pub answer-short : {phase : Phase} {text : List ℕ} (at : ℕ) (out : List ℕ) {r : Answered} {piece : List ℕ}
-    → Answers phase text (take (at + 64 - at) (drop at out)) r piece
+    → AnswersLine phase text (take (at + 64 - at) (drop at out)) r piece
     → length piece ≡ length (take (at + 64 - at) (drop at out)) → r .wrote ≤ 64
 answer-short {phase} {text} at out {r} {piece} a same =
     omega (

@@ -1,4 +1,4 @@
--- Answers one behind the other in the output. Assumes nothing.
+-- AnswersLine one behind the other in the output. Assumes nothing.
 use mathlib.Core.Path.{_≡_, ap, ap₂, sym, _∙_}
 use mathlib.Core.List.{List, _++_, append-assoc}
 use Prim.Native.Nat.{ℕ, _+_, _≤_}

@@ -1,3 +1,4 @@
+-- What only the contracts of the inner functions cite. Assumes nothing.
 pub mod Found
 pub mod Held
 pub mod Finished

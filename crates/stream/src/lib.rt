@@ -75,15 +75,15 @@ pub fn step(state: State, line: &mut [u8], block: &[u8], out: &mut [u8]) -> Step
     let mut current = state;
     let mut at = 0;
     let mut wrote = 0;
-    let mut newline = find_newline(block, at);
-    while newline < block.len() {
+    let mut end = find_newline(block, at);
+    while end < block.len() {
         let room = wrote + ANSWER;
-        let answered = finish(current, line, &block[at..newline], &mut out[wrote..room]);
+        let answered = finish(current, line, &block[at..end], &mut out[wrote..room]);
         let phase = answered.phase;
         current = State { phase, held: 0 };
         wrote += answered.wrote;
-        at = newline + 1;
-        newline = find_newline(block, at);
+        at = end + 1;
+        end = find_newline(block, at);
     }
     let held = hold(line, current.held, &block[at..]);
     let phase = current.phase;

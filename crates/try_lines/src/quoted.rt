@@ -10,7 +10,7 @@ struct Spelling {
 }
 
 // How many bytes a text has, and where its closing bracket stands; the end of the line where there is none.
-pub struct Reading {
+pub struct Quoted {
     pub count: usize,
     pub end: usize,
 }
@@ -47,12 +47,12 @@ fn spelled(line: &[u8], at: usize) -> Spelling
 }
 
 // Reads the next text of a line, from a place on. A line that is longer than the lent bytes has none.
-pub fn read(line: &[u8], from: usize, text: &mut [u8]) -> Reading
+pub fn read(line: &[u8], from: usize, text: &mut [u8]) -> Quoted
     requires { ⌜ from ≤ length (now line) ⌝ }
     ensures { λ r. ⌜ (r .count ≤ length (now (text .exit))) × (r .end ≤ length (now (line .entry))) ⌝ }
 {
     if text.len() < line.len() {
-        return Reading {
+        return Quoted {
             count: 0,
             end: line.len(),
         };
@@ -67,5 +67,5 @@ pub fn read(line: &[u8], from: usize, text: &mut [u8]) -> Reading
         count += 1;
         at = next.end;
     }
-    Reading { count, end }
+    Quoted { count, end }
 }

@@ -9,8 +9,9 @@ use crate::scan::row;
 use crate::scan::short;
 use crate::scan::values_at;
 use crate::text::put_line;
+use std::num::wrapping_sub_usize;
 
-pub fn unchanged() -> [u8; 4096]
+fn unchanged() -> [u8; 4096]
     ensures { λ r. ⌜ 4096 ≡ length r ⌝ }
 {
     [255; 4096]
@@ -22,42 +23,58 @@ fn tens() -> [i8; 4096]
     [10; 4096]
 }
 
-// A line that tells of what `changed` has thousands, and any other what it lists.
-fn size(line: &[u8], thousands: u64, listed: usize) -> usize
+// A line that tells how many bytes were changed has thousands, and any other what it lists.
+fn size(line: &[u8], thousands: usize, listed: usize) -> usize
     ensures { λ r. ⌜ r ≤ 4096 ⌝ }
 {
-    if count_of(b'h', line, line.len()) == 0 {
+    if count_of(b'h', line, 0) == 0 {
         return listed % 4097;
     }
-    (thousands % 4097) as usize
+    thousands % 4097
 }
 
-pub fn encode_line(line: &[u8], m: u16, t: u16, s: u16) {
+pub fn encode_line(line: &[u8]) {
     let room = (number(line, 5) % 4097) as usize;
     let mut space = unchanged();
-    let answer = codec::encode(m, t, s, number(line, 4), &mut space[0..room]);
-    put_line(line, [answer as u64, 0, 0, 0], &space);
-}
-
-pub fn read_line(line: &[u8], m: u16, t: u16, s: u16) {
-    let mut space = unchanged();
-    let listed = bytes_at(line, row(line, 4), &mut space);
-    let count = size(line, 4096, listed);
-    let reading = codec::read(m, t, s, &space[0..count]);
-    put_line(
-        line,
-        [reading.refusal as u64, reading.message, 0, 0],
-        &space,
+    let answer = codec::encode(
+        short(line, 1),
+        short(line, 2),
+        short(line, 3),
+        number(line, 4),
+        &mut space[0..room],
     );
+    put_line(line, &[answer as u64], &space);
 }
 
-fn decode_values(line: &[u8], m: u16, t: u16, s: u16, values: &[i8]) {
-    let room = size(line, 4096, count_of(b'*', line, line.len()));
+pub fn read_line(line: &[u8])
+    requires { ⌜ length (now line) ≤ 4096 ⌝ }
+{
     let mut space = unchanged();
-    let decoding = decode::decode(m, t, s, short(line, 4), values, &mut space[0..room]);
+    let count = size(line, 4096, bytes_at(line, row(line, 4), &mut space));
+    let reading = codec::read(
+        short(line, 1),
+        short(line, 2),
+        short(line, 3),
+        &space[0..count],
+    );
+    put_line(line, &[reading.refusal as u64, reading.message], &space);
+}
+
+// Four of the marks are numbers.
+fn decode_values(line: &[u8], values: &[i8]) {
+    let room = size(line, 4096, wrapping_sub_usize(count_of(b'?', line, 0), 4));
+    let mut space = unchanged();
+    let decoding = decode::decode(
+        short(line, 1),
+        short(line, 2),
+        short(line, 3),
+        short(line, 4),
+        values,
+        &mut space[0..room],
+    );
     put_line(
         line,
-        [
+        &[
             decoding.refusal as u64,
             decoding.distance as u64,
             decoding.flips as u64,
@@ -67,10 +84,13 @@ fn decode_values(line: &[u8], m: u16, t: u16, s: u16, values: &[i8]) {
     );
 }
 
-// Thousands of values are told as `4096 times 10`.
-pub fn decode_line(line: &[u8], m: u16, t: u16, s: u16) {
+// Thousands of values are told as `4096 times 10`, and not read.
+pub fn decode_line(line: &[u8])
+    requires { ⌜ length (now line) ≤ 4096 ⌝ }
+{
     let mut values = tens();
-    let listed = values_at(line, row(line, 5), &mut values);
-    let count = size(line, number(line, 5), listed);
-    decode_values(line, m, t, s, &values[0..count]);
+    let start = size(line, line.len(), row(line, 5));
+    let listed = values_at(line, start, &mut values);
+    let count = size(line, short(line, 5) as usize, listed);
+    decode_values(line, &values[0..count]);
 }

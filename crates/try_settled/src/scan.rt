@@ -1,38 +1,42 @@
-// What stands in a line: numbers, rows of bytes and rows of values. What is not there is 0.
+// What stands in a line: numbers, rows of bytes and rows of values.
 //
-// The numbers and rows of a line are known by their place: they stand after its first `=`, its second, and so on.
-ghost use Prim.Native.Nat.{_≤_};
+// The numbers and rows of a line are known by their place: they stand after its first `=`, its second, and so on. A number that is not there
+// is 0.
+ghost use Prim.Native.Nat.{_+_, _-_, _≤_, _<_};
+ghost use lib.ListN.{length};
 use bytes::scan::find;
 use std::num::wrapping_add_u64;
 use std::num::wrapping_add_usize;
 use std::num::wrapping_sub_u64;
 
-pub fn byte_at(line: &[u8], at: usize) -> u8 {
-    if at < line.len() { line[at] } else { 0 }
-}
-
-// How often a byte stands before a place.
-pub fn count_of(byte: u8, text: &[u8], end: usize) -> usize {
+// How often a byte stands in a text from an index on.
+pub fn count_of(byte: u8, text: &[u8], from: usize) -> usize {
     let mut count = 0;
-    let mut at = 0;
-    while at < end {
-        count = wrapping_add_usize(count, (byte_at(text, at) == byte) as usize);
+    let mut at = from;
+    while at < text.len() {
+        count = wrapping_add_usize(count, (text[at] == byte) as usize);
         at += 1;
     }
     count
 }
 
-// The index after the next such byte, or the line's end.
-fn after(line: &[u8], from: usize, byte: u8) -> usize {
-    if line.len() <= from {
-        return line.len();
+// The index after the next such byte, or the text's end; past `from`, unless that is the end.
+pub fn after(text: &[u8], from: usize, byte: u8) -> usize
+    requires { ⌜ from ≤ length (now text) ⌝ }
+    ensures { λ r. ⌜ r ≤ length (now (text .entry)) ⌝ }
+    ensures { λ r. ⌜ from + 1 ≤ r + (from + 1 - length (now (text .entry))) ⌝ }
+{
+    let at = find(text, from, text.len(), byte);
+    if at < text.len() {
+        return at + 1;
     }
-    let at = find(line, from, line.len(), byte);
-    if at < line.len() { at + 1 } else { at }
+    at
 }
 
 // Where the row of a place begins.
-pub fn row(line: &[u8], place: usize) -> usize {
+pub fn row(line: &[u8], place: usize) -> usize
+    ensures { λ r. ⌜ r ≤ length (now (line .entry)) ⌝ }
+{
     let mut at = 0;
     let mut passed = 0;
     while passed < place {
@@ -49,7 +53,7 @@ fn digit(byte: u8) -> usize
     find(b"0123456789abcdef", 0, 16, byte)
 }
 
-// A number of more than 64 bits is told wrong.
+// What does not fit 64 bits is left out.
 fn number_at(line: &[u8], from: usize) -> u64 {
     let mut value = 0;
     let mut at = from;
@@ -72,20 +76,21 @@ pub fn short(line: &[u8], place: usize) -> u16 {
     (number(line, place) % 65536) as u16
 }
 
-// The byte of two digits at an index; more than 255 where none stands there.
-fn pair_at(line: &[u8], at: usize) -> usize {
-    let low = digit(byte_at(line, wrapping_add_usize(at, 1)));
-    if low == 16 {
-        return 256;
-    }
-    digit(byte_at(line, at)) * 16 + low
+// The byte of two digits at an index; more than 255 where one of the two is none.
+fn pair_at(line: &[u8], at: usize) -> usize
+    requires { ⌜ at + 1 < length (now line) ⌝ }
+{
+    let low = digit(line[at + 1]);
+    digit(line[at]) * 16 + low + low / 16 * 256
 }
 
 // Puts the bytes of a row at the start of a buffer, and answers how many there are.
-pub fn bytes_at(line: &[u8], from: usize, space: &mut [u8]) -> usize {
+pub fn bytes_at(line: &[u8], from: usize, space: &mut [u8]) -> usize
+    requires { ⌜ (from ≤ length (now line)) × (length (now line) ≤ length (now space)) ⌝ }
+{
     let mut at = from;
     let mut count = 0;
-    while count < space.len() {
+    while at + 1 < line.len() {
         let pair = pair_at(line, at);
         if 255 < pair {
             break;
@@ -97,21 +102,25 @@ pub fn bytes_at(line: &[u8], from: usize, space: &mut [u8]) -> usize {
     count
 }
 
-// The complement of n-1 is -n, and -128 has one too.
-fn value_at(line: &[u8], at: usize) -> i8 {
-    if byte_at(line, at) != b'-' {
+// The complement of n-1 is -n, at n = 128 too.
+fn value_at(line: &[u8], at: usize) -> i8
+    requires { ⌜ at < length (now line) ⌝ }
+{
+    if line[at] != b'-' {
         return (number_at(line, at) % 128) as i8;
     }
-    let n = number_at(line, after(line, at, b'-'));
+    let n = number_at(line, at + 1);
     !((wrapping_sub_u64(n, 1) % 128) as i8)
 }
 
 // Puts the values of a row, which a word ends, at the start of `values`, and answers how many there are.
-pub fn values_at(line: &[u8], from: usize, values: &mut [i8]) -> usize {
+pub fn values_at(line: &[u8], from: usize, values: &mut [i8]) -> usize
+    requires { ⌜ length (now line) ≤ length (now values) ⌝ }
+{
     let mut at = from;
     let mut count = 0;
-    while count < values.len() {
-        if b'a' <= byte_at(line, at) {
+    while at < line.len() {
+        if b'a' <= line[at] {
             break;
         }
         values[count] = value_at(line, at);

@@ -1,6 +1,6 @@
-// What is printed: a line, with what its call answers in the place of its marks.
-use crate::scan::byte_at;
+// What is printed: a line, with what its call answers in the place of its question marks.
 use crate::scan::count_of;
+use bytes::scan::find;
 use libc::STDOUT_FILENO;
 use std::num::wrapping_sub_usize;
 
@@ -8,44 +8,36 @@ pub fn put_text(text: &[u8]) {
     io::write_all(STDOUT_FILENO, text);
 }
 
-pub fn put_char(byte: u8) {
-    io::write_all(STDOUT_FILENO, &[byte]);
+fn put_byte(byte: u8) {
+    io::print_hex(STDOUT_FILENO, byte as u64, 2);
 }
 
-// How many bytes past the eleventh are not ff.
-fn changed(space: &[u8; 4096]) -> usize {
-    wrapping_sub_usize(
-        wrapping_sub_usize(space.len(), 11),
-        wrapping_sub_usize(count_of(255, space, space.len()), count_of(255, space, 11)),
-    )
-}
-
-// The mark after those of the numbers tells how many bytes were changed.
-fn put_number(numbers: [u64; 4], k: usize, space: &[u8; 4096]) {
-    if k < 4 {
+// The k-th of what a call answers: its numbers, the first eleven bytes of the buffer, and how many of the other bytes are not ff.
+fn put_answer(numbers: &[u64], space: &[u8; 4096], k: usize) {
+    if k < numbers.len() {
         io::print_decimal(STDOUT_FILENO, numbers[k]);
         return;
     }
-    io::print_decimal(STDOUT_FILENO, changed(space) as u64);
-}
-
-// The byte at a place of a line, or what its mark stands for.
-fn put_at(line: &[u8], at: usize, numbers: [u64; 4], space: &[u8; 4096]) {
-    let byte = byte_at(line, at);
-    let before = count_of(byte, line, at);
-    match byte {
-        b'?' => put_number(numbers, before, space),
-        b'*' => {
-            io::print_hex(STDOUT_FILENO, byte_at(space, before) as u64, 2);
-        }
-        _ => put_char(byte),
+    let at = k - numbers.len();
+    if at < 11 {
+        put_byte(space[at]);
+        return;
     }
+    let changed = wrapping_sub_usize(4085, count_of(255, space, 11));
+    io::print_decimal(STDOUT_FILENO, changed as u64);
 }
 
-pub fn put_line(line: &[u8], numbers: [u64; 4], space: &[u8; 4096]) {
-    let mut at = 0;
-    while at < line.len() {
-        put_at(line, at, numbers, space);
-        at += 1;
+pub fn put_line(line: &[u8], numbers: &[u64], space: &[u8; 4096]) {
+    let mut from = 0;
+    let mut k = 0;
+    while from < line.len() {
+        let mark = find(line, from, line.len(), b'?');
+        put_text(&line[from..mark]);
+        if mark == line.len() {
+            return;
+        }
+        put_answer(numbers, space, k);
+        k += 1;
+        from = mark + 1;
     }
 }

@@ -11,7 +11,7 @@ use Rattle.codes.specs.Generator.{systematic}
 use Rattle.codes.proofs.ShapeLaws.{parity-full}
 use Rattle.words.specs.Packing.{unpacked, wordIn}
 use Rattle.frame.proofs.RefusalLaws.{ReadPassed}
-use Rattle.codec.specs.Call.{says}
+use Rattle.codec.specs.GivenBack.{says}
 use Rattle.codec.specs.Read.{ReadAnswers}
 use Rattle.codec.specs.declared.Reading.{Reading}
 use Rattle.codec.proofs.CodecLaws.{read-refuses, read-checked, read-unsent, read-message-lt, read-other, read-takes}

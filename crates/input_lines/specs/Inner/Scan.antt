@@ -11,7 +11,7 @@
 use mathlib.Core.Bool.{Bool, true, false, cond, _&&_}
 use mathlib.Core.List.{List, [], _∷_}
 use Prim.Native.Nat.{ℕ, _+_, _-_, _*_}
-use lib.Dec.{ltb, eqb}
+use lib.Dec.{leb, ltb, eqb}
 use lib.ListN.{length, getD, drop}
 use Rattle.input_lines.specs.Line.{isDigit}
 use Rattle.input_lines.specs.declared.item.Item.{Item}
@@ -56,3 +56,7 @@ minusAt text i = ltb i (length text) && eqb (getD text i 0) 45
 -- one to three digits were seen
 abbrev pub holdsNumber : Item → Bool
 holdsNumber p = ltb 0 (p .digits) && ltb (p .digits) 4
+
+-- a number from -128 to 127
+abbrev pub holdsValue : Item → Bool
+holdsValue p = holdsNumber p && leb (p .number) (cond (p .minus) 128 127)

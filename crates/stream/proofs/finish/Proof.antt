@@ -6,7 +6,7 @@ use native.Mathlib.Omega.{arith}
 use lib.ListN.{length-take}
 use denote.Ref.{now}
 use Rattle.lines.specs.Memory.{kept}
-use Rattle.lines.specs.Finished.{Answers}
+use Rattle.lines.specs.Finished.{AnswersLine}
 use Rattle.lines.specs.declared.phase.Phase.{Phase}
 use Rattle.lines.specs.declared.phase.Answered.{Answered}
 use Rattle.lines.proofs.KeptLaws.{line-kept, phase-kept}
@@ -15,8 +15,8 @@ use Rattle.stream.proofs.finish.Statement.{statement}
 use Rattle.stream.proofs.finish.Tie as tie
 
 -- of the line's text the first 513 bytes are enough
-answers-kept : (phase : Phase) (text before : List ℕ) (r : Answered) (after : List ℕ) → Answers phase text before r after
-    → Answers phase (kept text) before r after
+answers-kept : (phase : Phase) (text before : List ℕ) (r : Answered) (after : List ℕ) → AnswersLine phase text before r after
+    → AnswersLine phase (kept text) before r after
 answers-kept phase text before r after a =
     record { next = a .next ∙ sym (phase-kept phase text); writes = rw (line-kept phase text) (a .writes) }
 

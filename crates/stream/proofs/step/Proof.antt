@@ -11,11 +11,11 @@ use Rattle.stream.proofs.step.Statement.{statement}
 use Rattle.stream.proofs.step.Tie as tie
 
 abbrev Inv-loop : tie.InvT-loop
-Inv-loop line₀ block out₀ current₀ at₀ wrote₀ newline₀ line out current at wrote newline = Turned (memoryOf current₀ line₀) block out₀
-    current line out at wrote newline
+Inv-loop line₀ block out₀ current₀ at₀ wrote₀ end₀ line out current at wrote end = Turned (memoryOf current₀ line₀) block out₀
+    current line out at wrote end
 
 abbrev μ-loop : tie.MeasureT-loop
-μ-loop line₀ block out₀ current₀ at₀ wrote₀ newline₀ line out current at wrote newline = length block - at
+μ-loop line₀ block out₀ current₀ at₀ wrote₀ end₀ line out current at wrote end = length block - at
 
 find-newline-requires : tie.Need-find-newline-requires Inv-loop μ-loop
 find-newline-requires c κs = omega arith
@@ -89,7 +89,7 @@ loop-again c =
     let l = t .before .loop in
     let a = t .before .before .before .before .before .before .args in
     line-more (memoryOf (a .state) (now (a .line))) (now (a .block)) (now (a .out)) (l .current) (l .line) (l .out) (l .at) (l .wrote)
-    (l .newline) (l .inv) (t .loop-test .taken) (f .result) (f .last .1 .0) (f .last .1 .1 .1 .0)
+    (l .end) (l .inv) (t .loop-test .taken) (f .result) (f .last .1 .0) (f .last .1 .1 .1 .0)
     (c .find-newline2 .result) (f .ensures) (f .kept .1 .0) (f .kept .1 .1 .1 .0) (c .find-newline2 .ensures)
 
 sub-hold : tie.Need-sub-hold Inv-loop μ-loop
@@ -118,7 +118,7 @@ returns c =
     let l = c .before .before .before .before .before .before .loop in
     let h = c .before .before .hold in
     rest-held (memoryOf (a .state) (now (a .line))) (now (a .block)) (now (a .out)) (l .current) (l .line) (l .out) (l .at) (l .wrote)
-    (l .newline) (l .inv)
+    (l .end) (l .inv)
     (c .before .before .before .before .before .loop-test .left) (h .result) (h .last .0) (h .ensures)
 
 pub step-spec : {M : Type 1} → statement M

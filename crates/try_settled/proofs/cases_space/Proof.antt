@@ -1,3 +1,4 @@
+-- `try_settled::cases_space` meets its contract. The length is cited: to compute it takes seconds. Assumes nothing.
 use mathlib.Core.Path.{sym}
 use Prim.Native.Nat.{ℕ}
 use lib.ListN.{length-replicate}

@@ -1,4 +1,4 @@
--- `phase::answer` meets its contract. Assumes nothing.
+-- `lines::phase::answer` meets its contract. Assumes nothing.
 use mathlib.Core.Path.{refl}
 use borrow.Author.Needs.{needs}
 use Rattle.lines.proofs.phase.answer.Statement.{statement}

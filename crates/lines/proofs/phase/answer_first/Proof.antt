@@ -1,4 +1,4 @@
--- `phase::answer_first` meets its contract. Assumes nothing.
+-- `lines::phase::answer_first` meets its contract. Assumes nothing.
 use mathlib.Core.Path.{ap, ap₂, sym, _∙_}
 use Rattle.lines.specs.Answer.{headerGoesOn}
 use Rattle.lines.specs.Awaited.{wordsOrEnd}

@@ -14,7 +14,7 @@ use Rattle.prepare.specs.PlanOf.{planOf}
 use Rattle.candidates.specs.As.{asBest, mostCounted}
 use Rattle.parts.specs.Chains.{slotOf, Tabled}
 use Rattle.candidates.proofs.WeighSteps.{ne-pos}
-use Rattle.osd.specs.BestFrom.{bestFrom}
+use Rattle.osd.specs.Inner.BestFrom.{bestFrom}
 use Rattle.osd.proofs.SkipSteps.{made-more, at-first, at-after, next-slot, kept-start, kept-turn, room}
 use borrow.Fn.Kinds.{In}
 use borrow.Fn.PlainCycle.{Measures, is, falls, and}

@@ -1,19 +1,22 @@
--- `try_settled::scan::bytes_at` is safe and ends: the measure is the room left. Assumes nothing.
+-- `try_settled::scan::bytes_at` is safe and ends: the measure is the number of bytes left. Assumes nothing.
 use mathlib.Core.Path.{_≡_}
-use Prim.Native.Nat.{_-_}
+use Prim.Native.Nat.{_≤_, _-_}
 use borrow.Author.Needs.{needs}
 use lib.ListN.{length}
 use Rattle.try_settled.proofs.scan.bytes_at.Statement.{statement}
 use Rattle.try_settled.proofs.scan.bytes_at.Tie as tie
 
 abbrev Inv-loop : tie.InvT-loop
-Inv-loop line from space₀ at₀ count₀ space at count = length space ≡ length space₀
+Inv-loop line from space₀ at₀ count₀ space at count = (at ≤ length line) × ((count ≤ at) × (length space ≡ length space₀))
 
 abbrev μ-loop : tie.MeasureT-loop
-μ-loop line from space₀ at₀ count₀ space at count = length space₀ - count
+μ-loop line from space₀ at₀ count₀ space at count = length line - at
 
 loop-holds : tie.Need-loop-holds Inv-loop μ-loop
 loop-holds c = search needs
+
+add-loop : tie.Need-add-loop Inv-loop μ-loop
+add-loop c = search needs
 
 pair-at-requires : tie.Need-pair-at-requires Inv-loop μ-loop
 pair-at-requires c κs = search needs
@@ -55,6 +58,7 @@ bytes-at-spec =
     Inv-loop
     μ-loop
     loop-holds
+    add-loop
     pair-at-requires
     cast-space
     slice-write-space

@@ -1,20 +1,22 @@
--- `try_settled::scan::count_of` is safe and ends: the count is at most the number of bytes passed. Assumes nothing.
+-- `try_settled::scan::count_of` is safe and ends: the measure is the number of bytes left. Assumes nothing.
 use Prim.Native.Nat.{_-_}
 use borrow.Author.Needs.{needs}
+use lib.ListN.{length}
 use Rattle.try_settled.proofs.scan.count_of.Statement.{statement}
 use Rattle.try_settled.proofs.scan.count_of.Tie as tie
 
 abbrev Inv-loop : tie.InvT-loop
-Inv-loop byte text end count₀ at₀ count at = Unit
+Inv-loop byte text from count₀ at₀ count at = Unit
 
 abbrev μ-loop : tie.MeasureT-loop
-μ-loop byte text end count₀ at₀ count at = end - at
+μ-loop byte text from count₀ at₀ count at = length text - at
 
 loop-holds : tie.Need-loop-holds Inv-loop μ-loop
 loop-holds c = search needs
 
-byte-at-requires : tie.Need-byte-at-requires Inv-loop μ-loop
-byte-at-requires c κs = search needs
+shared-slice-read-wrapping-add-usize :
+    tie.Need-shared-slice-read-wrapping-add-usize Inv-loop μ-loop
+shared-slice-read-wrapping-add-usize c = search needs
 
 cast-wrapping-add-usize : tie.Need-cast-wrapping-add-usize Inv-loop μ-loop
 cast-wrapping-add-usize c = search needs
@@ -41,7 +43,7 @@ count-of-spec =
     Inv-loop
     μ-loop
     loop-holds
-    byte-at-requires
+    shared-slice-read-wrapping-add-usize
     cast-wrapping-add-usize
     wrapping-add-usize-requires
     add-at

@@ -1,22 +1,22 @@
--- `try_settled::scan::values_at` is safe and ends: the measure is the room left. Assumes nothing.
+-- `try_settled::scan::values_at` is safe and ends: the measure is the number of bytes left. Assumes nothing.
 use mathlib.Core.Path.{_≡_}
-use Prim.Native.Nat.{_-_}
+use Prim.Native.Nat.{_≤_, _-_}
 use borrow.Author.Needs.{needs}
 use lib.ListN.{length}
 use Rattle.try_settled.proofs.scan.values_at.Statement.{statement}
 use Rattle.try_settled.proofs.scan.values_at.Tie as tie
 
 abbrev Inv-loop : tie.InvT-loop
-Inv-loop line from values₀ at₀ count₀ values at count = length values ≡ length values₀
+Inv-loop line from values₀ at₀ count₀ values at count = (count ≤ at) × (length values ≡ length values₀)
 
 abbrev μ-loop : tie.MeasureT-loop
-μ-loop line from values₀ at₀ count₀ values at count = length values₀ - count
+μ-loop line from values₀ at₀ count₀ values at count = length line - at
 
 loop-holds : tie.Need-loop-holds Inv-loop μ-loop
 loop-holds c = search needs
 
-byte-at-requires : tie.Need-byte-at-requires Inv-loop μ-loop
-byte-at-requires c κs = search needs
+shared-slice-read-if1 : tie.Need-shared-slice-read-if1 Inv-loop μ-loop
+shared-slice-read-if1 c = search needs
 
 value-at-requires : tie.Need-value-at-requires Inv-loop μ-loop
 value-at-requires c κs = search needs
@@ -55,7 +55,7 @@ values-at-spec =
     Inv-loop
     μ-loop
     loop-holds
-    byte-at-requires
+    shared-slice-read-if1
     value-at-requires
     slice-set-from-values
     add-count

@@ -1,19 +1,12 @@
 -- What the contract of `read_values` says of the array that it is lent. Assumes nothing.
 use mathlib.Core.Path.{_≡_}
-use mathlib.Core.Bool.{Bool, cond, _&&_}
 use mathlib.Core.List.{List}
 use Prim.Native.Nat.{_≤_}
-use lib.Dec.{T, leb}
+use lib.Dec.{T}
 use lib.IntN.{ℤ}
 use lib.ListN.{length, take}
 use Rattle.input_lines.specs.WordLine.{Values}
-use Rattle.input_lines.specs.Inner.Scan.{holdsNumber}
-use Rattle.input_lines.specs.declared.item.Item.{Item}
 use Rattle.input_lines.specs.declared.word_line.Line.{Line}
-
--- a number from -128 to 127
-abbrev pub holdsValue : Item → Bool
-holdsValue p = holdsNumber p && leb (p .number) (cond (p .minus) 128 127)
 
 -- the values stand at the start of the array
 pub record ValuesRead (v : Values) (r : Line) (array : List ℤ) : Type 0 where
