@@ -12,17 +12,10 @@ use lines::answer::answer_word;
 
 // What a header says, where words follow.
 fn put_header(h: Header) {
-    put(b": words follow, m=", h.m as u64);
-    put(b" t=", h.t as u64);
-    put(b" s=", h.s as u64);
-    put(b" order=", h.order as u64);
-    put_text(b"\n");
-}
-
-fn put_answer(out: &[u8], n: usize) {
-    put_text(b": ");
-    put_shown(out, n);
-    put_text(b"\n");
+    put(b"words follow, m=", h.m);
+    put(b" t=", h.t);
+    put(b" s=", h.s);
+    put(b" order=", h.order);
 }
 
 fn answer_first(text: &[u8]) {
@@ -33,67 +26,70 @@ fn answer_first(text: &[u8]) {
         put_header(h);
         return;
     }
-    put_answer(&out, n);
+    put_shown(&out, n);
 }
 
 fn answer_under(header: &[u8], text: &[u8]) {
     let h = read_header(header);
     let mut out = [0u8; 64];
     let n = answer_word(h, text, &mut out);
-    put_answer(&out, n);
+    put_shown(&out, n);
 }
 
-// What all lines print, and what the end of the input adds. The step may print 64 bytes for each of its input.
+// What all lines print, and what the end of the input adds. The step may print 64 bytes for each byte of its input.
 fn answer_input(text: &[u8])
     requires { ⌜ length (now text) ≤ 1024 ⌝ }
 {
     let mut line = [0u8; 513];
     let mut out = io::large_buffer();
-    let start = stream::start();
-    let stepped = stream::step(start, &mut line, text, &mut out);
-    put_text(b": [");
+    let stepped = stream::step(stream::start(), &mut line, text, &mut out);
     put_shown(&out, stepped.wrote);
-    let state = stepped.state;
-    let added = stream::end(state, &line, &mut out);
+    let added = stream::end(stepped.state, &line, &mut out);
     put_shown(&out, added);
-    put_text(b"]\n");
 }
 
-// By the kind of a case, which is its first letter.
+// A case with no kind of its own is a bad one.
 fn answer(kind: u8, text: &[u8], under: &[u8])
     requires { ⌜ length (now text) ≤ 1024 ⌝ }
 {
     match kind {
-        b'A'..=b'Z' => put_text(b"\n"),
         b'h' => answer_first(text),
         b'w' => answer_under(under, text),
-        b'i' => answer_input(text),
-        _ => put_text(b": bad case\n"),
+        b'i' => {
+            put_text(b"[");
+            answer_input(text);
+            put_text(b"]");
+        }
+        _ => put_text(b"bad case"),
     }
 }
 
-// The first letter, or 0 where a text of the case is not closed. A title has no text, and a word has two.
-fn kind_of(case: &[u8], first: usize, second: usize) -> u8 {
-    if case.len() == 0 {
-        return 0;
-    }
-    let letter = case[0];
+// The kind of a case is its first letter, or 0 where its last text is not closed: a word line has two.
+fn kind_of(letter: u8, first: usize, second: usize, end: usize) -> u8 {
     let last = if letter == b'w' { second } else { first };
-    if last < case.len() || letter < b'a' {
-        letter
-    } else {
-        0
-    }
+    if last < end { letter } else { 0 }
 }
 
-// Prints what belongs behind a case.
-pub fn run(case: &[u8]) {
+fn answer_texts(case: &[u8], letter: u8) {
     let mut text = [0u8; 1024];
     let mut under = [0u8; 1024];
     let first = quoted::read(case, 0, &mut text);
     let second = quoted::read(case, first.end, &mut under);
-    let kind = kind_of(case, first.end, second.end);
+    let kind = kind_of(letter, first.end, second.end, case.len());
     let n = first.count;
     let k = second.count;
     answer(kind, &text[0..n], &under[0..k]);
+}
+
+// Prints what stands behind a case: nothing, where it is a title.
+pub fn run(case: &[u8]) {
+    if case.len() == 0 {
+        return;
+    }
+    let letter = case[0];
+    if letter < b'a' {
+        return;
+    }
+    put_text(b": ");
+    answer_texts(case, letter);
 }

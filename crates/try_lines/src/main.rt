@@ -7,7 +7,7 @@
 //     input [TEXT]                a whole input
 //     NAME|CASE                   a case that is printed by a name
 //
-// A line that starts with a capital letter is a title, and has no answer. Any other, and a case of more than 1,024 bytes, is a bad case.
+// A line that starts with no small letter is a title, and has no answer. Any other is a bad case, and so is one of more than 1,024 bytes.
 // In a TEXT a backslash and two hexadecimal digits are a byte: so stand bytes that are no printable character, a bar and a closing bracket.
 // The file `stdout` has what the paper says, written by other means.
 mod printed; // what is printed
@@ -34,6 +34,7 @@ fn each_line(stored: &[u8]) {
     while at < stored.len() {
         let end = find(stored, at, stored.len(), b'\n');
         run_line(&stored[at..end]);
+        printed::put_text(b"\n");
         at = end + 1;
     }
 }

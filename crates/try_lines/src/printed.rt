@@ -7,9 +7,9 @@ pub fn put_text(text: &[u8]) {
 }
 
 // A number and the text before it.
-pub fn put(text: &[u8], n: u64) {
+pub fn put(text: &[u8], n: u16) {
     put_text(text);
-    io::print_decimal(STDOUT_FILENO, n);
+    io::print_decimal(STDOUT_FILENO, n as u64);
 }
 
 // A byte as it is, or as a backslash and two digits.

@@ -1,9 +1,9 @@
 // One call of decode, and whether all of its answer and of its buffer is that of the exhaustive search; and a call of read on the buffer.
 ghost use Prim.Native.Nat.{_≤_, _<_};
-use crate::exhaustive::Found;
-use crate::exhaustive::search;
-use crate::received::values;
-use crate::received::wide;
+use exhaustive::candidates::Found;
+use exhaustive::candidates::search;
+use exhaustive::received::values;
+use exhaustive::received::wide;
 
 // What was seen of a call.
 pub struct Outcome {

@@ -1,38 +1,31 @@
 // Runs decode on words of 15 bits, and read on its answers, and compares them with an exhaustive search that shares no code with them.
 //
-// Random words of every code, shortening and order, and words sent with the wrong bits' sum at the edge of demand 3: one below the bound, and
-// at it. The file `stdout` has the counts.
+// Random words of every code, shortening and order, and words sent with the wrong bits' sum at the edge of demand 3: one below the bound,
+// and at it. The file `stdout` has the counts.
 ghost use Prim.Native.Nat.{_≤_};
 use crate::compare::compare;
-use crate::drafts::Sent;
-use crate::drafts::chosen;
-use crate::drafts::sent_word;
-use crate::random::drawn;
-use crate::random::next;
-use crate::random::other;
-use crate::roots::list_codewords;
-use crate::sent::margin_of;
 use crate::tally::CODEWORDS;
 use crate::tally::both;
 use crate::tally::count_outcome;
 use crate::tally::count_sent;
 use crate::tally::put;
 use crate::tally::put_tally;
-use crate::words::KINDS;
-use crate::words::random_word;
+use drawn::drafts::SentWord;
+use drawn::drafts::chosen;
+use drawn::drafts::sent_word;
+use drawn::kinds::KINDS;
+use drawn::kinds::random_word;
+use drawn::random::drawn;
+use drawn::random::next;
+use drawn::random::other;
+use exhaustive::roots::list_codewords;
+use exhaustive::sent::margin_of;
 
-mod random; // numbers without a pattern
-mod roots; // the codewords by their roots
-mod received; // received words
-mod exhaustive; // what decode has to answer
-mod compare; // a call compared with it
-mod words; // random words
-mod sent; // what demand 3 supposes
-mod drafts; // words at its edge
+mod compare; // a call compared with the exhaustive search
 mod tally; // what is counted
 
-// How many words are tried for each code, shortening and order. Of ten words six are random, one of each kind, and four are sent, two with the
-// wrong sum one below the bound and two at it.
+// How many words are tried for each code, shortening and order. Of ten words six are random, one of each kind, and four are sent, two
+// with the wrong sum one below the bound and two at it.
 const WORDS: u64 = 400;
 
 struct Run {
@@ -41,14 +34,14 @@ struct Run {
 }
 
 // A word of a kind, and the codeword that it was made of.
-fn word_of(list: &[u64], t: u16, s: u16, kind: u64, seed: u64) -> Sent
+fn drawn_word(list: &[u64], t: u16, s: u16, kind: u64, seed: u64) -> SentWord
     requires { ⌜ (t ≤ 3) × (s ≤ 15) ⌝ }
 {
     if KINDS <= kind {
         return sent_word(list, t, s, kind % 2, seed);
     }
     let codeword = chosen(list, 0, drawn(seed));
-    Sent {
+    SentWord {
         word: random_word(kind, codeword, 15 - s as usize, next(seed)),
         codeword,
     }
@@ -58,7 +51,7 @@ fn word_case(run: Run, list: &[u64], t: u16, s: u16, order: u16, kind: u64) -> R
     requires { ⌜ (t ≤ 3) × (s ≤ 15) ⌝ }
 {
     let seed = other(run.seed);
-    let sent = word_of(list, t, s, kind, seed);
+    let sent = drawn_word(list, t, s, kind, seed);
     let word = sent.word;
     let outcome = compare(list, &word, t, s, order, (seed % 256) as u8);
     let margin = margin_of(&word, sent.codeword, t, s, order);

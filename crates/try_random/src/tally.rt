@@ -1,8 +1,8 @@
 // What is counted over all words of a code, each count at its place, and printed.
 ghost use Prim.Native.Nat.{_<_};
 use crate::compare::Outcome;
-use crate::exhaustive::one_more;
-use crate::sent::Margin;
+use exhaustive::candidates::one_more;
+use exhaustive::sent::Margin;
 use libc::STDOUT_FILENO;
 
 // The codewords of the code.

@@ -1,8 +1,9 @@
 // Runs the examples and the refusals of document 01 ('Settled examples', 'What each call says no to'), a line of the file `stdin` a case.
 //
-// A line is printed with what its call answers in the place of its question marks: numbers, and then the bytes of the buffer. The file `stdout`
-// has the paper's answers. A lent buffer is filled with ff before the call and all of it is printed after the call, so a line shows what was
-// written and what was left. A line that begins with # is not printed. Any other that is no call, or too long for one, is printed as it is.
+// A line is printed with what its call answers in the place of its question marks: numbers, and then the bytes of the buffer. The file
+// `stdout` has the paper's answers. A lent buffer is filled with ff before the call and all of it is printed after the call, so a line
+// shows what was written and what was left. A line that begins with # is not printed. Any other that is no call, or too long for one, is
+// printed as it is.
 ghost use mathlib.Core.Path.{_≡_};
 ghost use Prim.Native.Nat.{_<_};
 ghost use lib.ListN.{length};

@@ -1,7 +1,7 @@
 // What stands in a line: numbers, rows of bytes and rows of values.
 //
-// The numbers and rows of a line are known by their place: they stand after its first `=`, its second, and so on. A number that is not there
-// is 0.
+// The numbers and rows of a line are known by their place: they stand after its first `=`, its second, and so on. A number that is not
+// there is 0.
 ghost use Prim.Native.Nat.{_+_, _-_, _≤_, _<_};
 ghost use lib.ListN.{length};
 use bytes::scan::find;

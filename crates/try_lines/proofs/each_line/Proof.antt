@@ -6,10 +6,10 @@ use Rattle.try_lines.proofs.each_line.Statement.{statement}
 use Rattle.try_lines.proofs.each_line.Tie as tie
 
 abbrev Inv-loop : tie.InvT-loop
-Inv-loop stored at₀ at = Unit {0}
+Inv-loop stored at₀ t4 at = Unit {0}
 
 abbrev μ-loop : tie.MeasureT-loop
-μ-loop stored at₀ at = length stored - at
+μ-loop stored at₀ t4 at = length stored - at
 
 loop-holds : tie.Need-loop-holds Inv-loop μ-loop
 loop-holds c = search needs
@@ -28,6 +28,12 @@ part-run-line-end c = search needs
 
 run-line-requires : tie.Need-run-line-requires Inv-loop μ-loop
 run-line-requires c κs = search needs
+
+slice-aggregate-put-text : tie.Need-slice-aggregate-put-text Inv-loop μ-loop
+slice-aggregate-put-text c = search needs
+
+put-text-requires : tie.Need-put-text-requires Inv-loop μ-loop
+put-text-requires c κs = search needs
 
 add-at : tie.Need-add-at Inv-loop μ-loop
 add-at c = search needs
@@ -53,6 +59,8 @@ each-line-spec =
     part-run-line-start
     part-run-line-end
     run-line-requires
+    slice-aggregate-put-text
+    put-text-requires
     add-at
     loop-less
     loop-again
