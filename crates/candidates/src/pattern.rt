@@ -2,8 +2,8 @@
 use crate::best::Best;
 use crate::best::Candidate;
 use prepare::Prepared;
-use prepare::Symbols;
 use ranks::Rank;
+use table::Symbols;
 ghost use mathlib.Core.Path.{_≡_};
 ghost use Prim.Native.Nat.{_+_, _^_, _<_};
 ghost use Rattle.words.specs.Packing.{unpacked};

@@ -16,12 +16,12 @@ use borrow.Author.Tests.{le-leb, lt-leb}
 use lib.Dec.{T, leb}
 use lib.ListN.{length, getD, take, drop, set, length-set}
 use lib.Seq.{length-take-le, take-suc-set, drop-set-lt, drop-drop}
-use Rattle.input_lines.specs.Line.{lineFits, items, isNumber, numberOf, every}
+use Rattle.items.specs.Line.{lineFits, items, isNumber, numberOf, every}
 use Rattle.input_lines.specs.Header.{wrongHeader, headerWith, headerIn, headerOf}
-use Rattle.input_lines.specs.Inner.Scan.{holdsNumber, firstItem, foundAt}
-use Rattle.input_lines.specs.declared.item.Found.{Found}
+use Rattle.items.specs.Scan.{holdsNumber, firstItem, foundAt}
+use Rattle.items.specs.declared.Found.{Found}
 use Rattle.input_lines.proofs.ItemsLaws.{itemsFrom, items-next}
-use Rattle.input_lines.proofs.ScanLaws.{plain-is, plain-number, number-full}
+use Rattle.input_lines.proofs.ItemTells.{plain-is, plain-number, number-full}
 use Rattle.input_lines.proofs.ReadSteps.{Reading, item-within, reading-begin, reading-more, reading-wrong, reading-end, reading-all}
 
 abbrev unread : List ℕ

@@ -12,8 +12,8 @@ use borrow.Author.Tests.{leb-true, leb-false, le-leb, lt-leb}
 use lib.Dec.{leb, eqb, leb·zero, leb·suc-suc}
 use lib.ListN.{length, drop, length-drop}
 use lib.Seq.{drop-drop}
-use Rattle.input_lines.specs.Line.{onFirst, items}
-use Rattle.input_lines.specs.Inner.Scan.{firstItem}
+use Rattle.items.specs.Line.{onFirst, items}
+use Rattle.items.specs.Scan.{firstItem}
 
 abbrev pub itemsFrom : List ℕ → ℕ → List (List ℕ)
 itemsFrom text i = cond (leb i (length text)) (items (drop i text)) []

@@ -1,6 +1,5 @@
 pub mod ItemsLaws
-pub mod ScanLaws
-pub mod ScanSteps
+pub mod ItemTells
 pub mod SignedLaws
 pub mod ReadSteps
 pub mod HeaderSteps

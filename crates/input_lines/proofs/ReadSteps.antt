@@ -11,8 +11,8 @@ use borrow.Author.Tests.{lt-leb}
 use lib.Dec.{T, eqb, leb·zero}
 use lib.ListN.{length, drop, length-append, length-drop}
 use Rattle.field.proofs.TestLaws.{is-true}
-use Rattle.input_lines.specs.Line.{items, every}
-use Rattle.input_lines.specs.Inner.Scan.{firstItem}
+use Rattle.items.specs.Line.{items, every}
+use Rattle.items.specs.Scan.{firstItem}
 use Rattle.input_lines.proofs.ItemsLaws.{itemsFrom, items-next}
 
 first-fits : (text : List ℕ) → length (firstItem text) ≤ length text

@@ -16,8 +16,9 @@ use mir.Val.{SFits, toZ, ofZ}
 use mir.Facts.{sfits-widen}
 use mir.ValLaws.{toZ-pos, toZ-ofZ}
 use Rattle.field.proofs.TestLaws.{and-right}
-use Rattle.input_lines.specs.Inner.Scan.{holdsNumber, holdsValue}
-use Rattle.input_lines.specs.declared.item.Item.{Item}
+use Rattle.items.specs.Scan.{holdsNumber}
+use Rattle.input_lines.specs.Inner.HoldsValue.{holdsValue}
+use Rattle.items.specs.declared.Item.{Item}
 
 value-most : (p : Item) → T (holdsValue p) → p .number ≤ cond (p .minus) 128 127
 value-most p t = leb→le (p .number) (cond (p .minus) 128 127) (and-right (holdsNumber p) (leb (p .number) (cond (p .minus) 128 127)) t)

@@ -14,11 +14,12 @@ use lib.IntN.{ℤ}
 use lib.ListN.{length, take, drop, set, length-set}
 use lib.Seq.{length-take-le, take-suc-set}
 use Rattle.input_lines.specs.WordLine.{isValue, signed, valueOf, valuesOf}
-use Rattle.input_lines.specs.Inner.Scan.{firstItem, foundAt, holdsValue}
+use Rattle.items.specs.Scan.{firstItem, foundAt}
+use Rattle.input_lines.specs.Inner.HoldsValue.{holdsValue}
 use Rattle.input_lines.specs.ValuesRead.{ValuesRead}
-use Rattle.input_lines.specs.declared.item.Found.{Found}
+use Rattle.items.specs.declared.Found.{Found}
 use Rattle.input_lines.specs.declared.word_line.Line.{Line}
-use Rattle.input_lines.proofs.ScanLaws.{value-is, value-number, value-full}
+use Rattle.input_lines.proofs.ItemTells.{value-is, value-number, value-full}
 use Rattle.input_lines.proofs.ReadSteps.{Reading, item-within, reading-begin, reading-more, reading-wrong, reading-end, reading-all}
 
 abbrev line : Bool → ℕ → Line

@@ -6,7 +6,7 @@
 use mathlib.Core.Bool.{true, false, cond, _&&_}
 use mathlib.Core.List.{List, [], _∷_, map}
 use Prim.Native.Nat.{ℕ}
-use Rattle.input_lines.specs.Line.{lineFits, items, isNumber, numberOf, every}
+use Rattle.items.specs.Line.{lineFits, items, isNumber, numberOf, every}
 use Rattle.input_lines.specs.declared.header.Header.{Header}
 
 abbrev pub wrongHeader : Header

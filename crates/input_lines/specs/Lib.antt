@@ -1,4 +1,3 @@
-pub mod Line
 pub mod Header
 pub mod WordLine
 pub mod ValuesRead

@@ -9,7 +9,7 @@ use mathlib.Core.List.{List, [], _∷_, map}
 use Prim.Native.Nat.{ℕ}
 use lib.Dec.{leb, eqb}
 use lib.IntN.{ℤ, pos, negℤ}
-use Rattle.input_lines.specs.Line.{lineFits, items, isNumber, numberOf, every}
+use Rattle.items.specs.Line.{lineFits, items, isNumber, numberOf, every}
 
 -- "in word lines with an optional minus"
 abbrev pub negative : List ℕ → Bool

@@ -2,10 +2,10 @@
 ghost use mathlib.Core.Path.{_≡_};
 ghost use mathlib.Core.Bool.{_&&_, not};
 ghost use Rattle.input_lines.specs.Header.{headerOf, wrongHeader};
-ghost use Rattle.input_lines.specs.Inner.Scan.{holdsNumber};
-use crate::item::Item;
-use crate::item::holds_number;
-use crate::item::item_at;
+ghost use Rattle.items.specs.Scan.{holdsNumber};
+use items::Item;
+use items::holds_number;
+use items::item_at;
 
 // m, t, s and order; all 0 where the header is wrong.
 pub struct Header {

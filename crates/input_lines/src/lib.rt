@@ -1,4 +1,3 @@
 // What a line of the input says, as functions on slices: the header, and the values of a word line.
-pub mod item; // item.rt: what stands between two spaces of a line, as a number
 pub mod header; // header.rt: the first line
 pub mod word_line; // word_line.rt: the values of a word line

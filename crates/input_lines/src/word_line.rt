@@ -5,10 +5,10 @@ ghost use lib.Dec.{T};
 ghost use lib.ListN.{length};
 ghost use Rattle.input_lines.specs.WordLine.{signed, valuesOf};
 ghost use Rattle.input_lines.specs.ValuesRead.{ValuesRead};
-ghost use Rattle.input_lines.specs.Inner.Scan.{holdsValue};
-use crate::item::Item;
-use crate::item::holds_number;
-use crate::item::item_at;
+ghost use Rattle.input_lines.specs.Inner.HoldsValue.{holdsValue};
+use items::Item;
+use items::holds_number;
+use items::item_at;
 
 // Whether a line is of the right form, and if so how many values it has.
 pub struct Line {

@@ -5,7 +5,7 @@ use mathlib.Core.List.{[], _∷_, map}
 use lib.IntN.{pos, negsuc}
 use Rattle.codes.specs.Code.{entryOf, dimensionOf}
 use Rattle.frame.specs.Refusal.{headerRefusal}
-use Rattle.input_lines.specs.Line.{items, isNumber, numberOf}
+use Rattle.items.specs.Line.{items, isNumber, numberOf}
 use Rattle.input_lines.specs.Header.{wrongHeader, headerWith, headerOf}
 use Rattle.input_lines.specs.WordLine.{isValue, valueOf, valuesOf}
 use Rattle.output_lines.specs.Text.{bytesIn}

@@ -21,7 +21,7 @@ use Rattle.frame.proofs.RefusalLaws.{decode-passed}
 use Rattle.decode.specs.Decode.{DecodeAnswers, refused, nothing, decoded}
 use Rattle.decode.specs.declared.Decoding.{Decoding}
 use Rattle.decode.proofs.CalledLaws.{answers-as-result}
-use Rattle.input_lines.specs.Line.{items, isNumber}
+use Rattle.items.specs.Line.{items, isNumber}
 use Rattle.input_lines.specs.Header.{headerOf}
 use Rattle.input_lines.specs.WordLine.{valuesOf}
 use Rattle.output_lines.specs.Output.{headerLine, lineLine, refusedLine, okLine}

@@ -6,7 +6,7 @@ ghost use lib.ListN.{length, getD};
 ghost use Rattle.search.specs.Part.{partOver};
 ghost use Rattle.parts.specs.Parts.{PartsOf};
 ghost use Rattle.parts.specs.Inner.RowAdded.{RowAdded};
-use prepare::Symbols;
+use table::Symbols;
 
 // The part of each rank's column.
 pub type Parts = [u16; 64];

@@ -1,5 +1,3 @@
-pub mod StoreLaws
 pub mod RankLaws
-pub mod ExponentLaws
 pub mod RowSumLaws
 pub mod PreparedWord

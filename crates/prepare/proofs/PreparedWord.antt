@@ -22,16 +22,17 @@ use Rattle.search.specs.Plan.{Fits, Prepares}
 use Rattle.words.specs.Packing.{unpacked}
 use Rattle.search.proofs.BestIsNearest.{hard-lt}
 use Rattle.ranks.specs.Places.{placeIn}
-use Rattle.ranks.specs.Receives.{Receives}
+use Rattle.received.specs.Receives.{Receives}
 use Rattle.ranks.specs.Ordered.{Ordered}
 use Rattle.ranks.specs.declared.Position.{Position}
-use Rattle.ranks.specs.declared.values.Received.{Received}
+use Rattle.received.specs.declared.Received.{Received}
 use Rattle.ranks.proofs.SortedOrder.{sorted-order}
 use Rattle.prepare.specs.declared.Prepared.{Prepared}
 use Rattle.prepare.specs.PlanOf.{planOf}
 use Rattle.prepare.specs.declared.by_rank.ByRank.{ByRank}
 use Rattle.prepare.specs.Inner.ByRank.{Gathers, ranked}
-use Rattle.prepare.specs.Inner.Table.{Cells, RowSums, rowSum}
+use Rattle.table.specs.Table.{Cells}
+use Rattle.prepare.specs.Inner.RowSums.{RowSums, rowSum}
 use Rattle.prepare.proofs.RankLaws.{word-above}
 use Rattle.prepare.proofs.RowSumLaws.{symbol-is}
 

@@ -22,8 +22,8 @@ use Rattle.search.proofs.SymbolLaws.{symbol-bits}
 use Rattle.search.proofs.BitSumLaws.{xor-none}
 use Rattle.search.proofs.LowestBit.{turn-xor}
 use Rattle.search.proofs.RankBits.{xor-bits-sum}
-use Rattle.prepare.specs.Inner.Table.{AddsColumn, rowSum, RowSums}
-use Rattle.prepare.proofs.StoreLaws.{zeros, zeros-at}
+use Rattle.prepare.specs.Inner.RowSums.{AddsColumn, rowSum, RowSums}
+use Rattle.table.proofs.StoreLaws.{zeros, zeros-at}
 
 -- the bits below k are those of the remainder
 bit-low : (w k p : ℕ) → p < k → bitOf (w % 2 ^ k) p ≡ bitOf w p

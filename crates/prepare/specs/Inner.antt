@@ -1,4 +1,3 @@
 -- What only the contracts of the inner functions cite. Assumes nothing.
 pub mod ByRank
-pub mod Exponents
-pub mod Table
+pub mod RowSums

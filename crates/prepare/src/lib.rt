@@ -1,7 +1,5 @@
 // A word that is prepared: what stays for all patterns, made once a word.
 mod by_rank; // what is by position, by rank
-mod products; // products as sums of exponents
-mod table; // the symbol table
 mod unflipped; // the symbols of the unflipped pattern
 
 ghost use mathlib.Core.Path.{_≡_};
@@ -13,9 +11,7 @@ ghost use Rattle.words.specs.Packing.{unpacked};
 ghost use Rattle.search.specs.Plan.{Fits, Prepares};
 ghost use Rattle.prepare.specs.PlanOf.{planOf};
 use ranks::Position;
-
-// The symbol table: what a 1 at rank j adds to the symbol of row q, at q * 63 + j.
-pub type Symbols = [u8; 378];
+use table::Symbols;
 
 // What is by rank has the reliable set first, then the places outside. Bytes alone, since a struct that wants to be aligned is
 // copied at each call that it is passed on to.
@@ -59,7 +55,7 @@ pub fn prepare(m: u8, t: u8, soft: &[i8]) -> Prepared
     let n = words::length_of(m as u16);
     let size = reliable_size(m, t);
     let rows = n - size;
-    let received = ranks::values::receive(soft);
+    let received = received::receive(soft);
     let hards = received.hards;
     let reliability = received.reliability;
     let order = ranks::order::order_of(reliability, n);

@@ -2,8 +2,8 @@
 ghost use mathlib.Core.Path.{_≡_};
 ghost use Prim.Native.Nat.{_≤_, _<_};
 ghost use lib.ListN.{length};
-ghost use Rattle.prepare.specs.Inner.Table.{AddsColumn, RowSums};
-use crate::Symbols;
+ghost use Rattle.prepare.specs.Inner.RowSums.{AddsColumn, RowSums};
+use table::Symbols;
 
 // The sums with the column of rank j added, in all six rows, used or not.
 fn plus_column(symbols: &Symbols, j: usize, mut sums: [u8; 6]) -> [u8; 6]

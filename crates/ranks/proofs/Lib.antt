@@ -1,5 +1,3 @@
-pub mod SignLaws
-pub mod ReceiveSteps
 pub mod CountLaws
 pub mod CountSteps
 pub mod PlaceSteps

@@ -1,4 +1,3 @@
 pub mod Places
-pub mod Receives
 pub mod Ordered
 pub mod Inner

@@ -15,7 +15,7 @@ use Rattle.search.specs.Positions.{positionAt, listed, positions, searchOver}
 use Rattle.words.specs.Packing.{bytesOf, packed, written}
 use Rattle.frame.specs.Refusal.{headerRefusal, decodeRefusal}
 use Rattle.decode.specs.Called.{resultOf}
-use Rattle.input_lines.specs.Line.{items, isNumber, numberOf}
+use Rattle.items.specs.Line.{items, isNumber, numberOf}
 use Rattle.input_lines.specs.Header.{headerOf}
 use Rattle.input_lines.specs.WordLine.{isValue, valueOf, valuesOf}
 use Rattle.output_lines.specs.Output.{decimalIn, decimal, hexOf, refusedLine, okLine}

@@ -9,7 +9,7 @@ use lib.ListN.{length}
 use borrow.Author.Tests.{not-true, not-false}
 use mir.Syntax.{w8}
 use mir.ValLaws.{toZ-ofZ}
-use Rattle.input_lines.specs.Inner.Scan.{holdsValue}
+use Rattle.input_lines.specs.Inner.HoldsValue.{holdsValue}
 use Rattle.input_lines.proofs.ValuesSteps.{Read, read-begin, read-long, read-wrong, ends-after, ends-within, read-room, read-more}
 use Rattle.input_lines.proofs.ValuesSteps.{read-all}
 use Rattle.input_lines.proofs.word_line.read_values.Statement.{statement}

@@ -4,7 +4,7 @@ use Prim.Native.Nat.{ℕ, _+_, _-_, _*_, _≤_}
 use native.Mathlib.Omega.{arith}
 use lib.ListN.{getD}
 use Rattle.field.specs.Field.{_⊕_}
-use Rattle.prepare.proofs.StoreLaws.{Written, written-none, written-more}
+use Rattle.table.proofs.StoreLaws.{Written, written-none, written-more}
 use Rattle.prepare.proofs.unflipped.plus_column.Statement.{statement}
 use Rattle.prepare.proofs.unflipped.plus_column.Tie as tie
 

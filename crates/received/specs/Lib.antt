@@ -1,0 +1,2 @@
+pub mod Receives
+pub mod Inner
