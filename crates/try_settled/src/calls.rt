@@ -2,13 +2,13 @@
 ghost use mathlib.Core.Path.{_≡_};
 ghost use Prim.Native.Nat.{_≤_};
 ghost use lib.ListN.{length};
-use crate::scan::bytes_at;
-use crate::scan::count_of;
-use crate::scan::number;
-use crate::scan::row;
-use crate::scan::short;
-use crate::scan::values_at;
-use crate::text::put_line;
+use cases::scan::bytes_at;
+use cases::scan::count_of;
+use cases::scan::number;
+use cases::scan::row;
+use cases::scan::short;
+use cases::scan::values_at;
+use cases::text::put_line;
 use std::num::wrapping_sub_usize;
 
 fn unchanged() -> [u8; 4096]

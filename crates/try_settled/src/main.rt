@@ -10,12 +10,10 @@ ghost use lib.ListN.{length};
 use crate::calls::decode_line;
 use crate::calls::encode_line;
 use crate::calls::read_line;
-use crate::scan::after;
-use crate::text::put_text;
+use cases::scan::after;
+use cases::text::put_text;
 use libc::STDIN_FILENO;
 
-mod scan; // what stands in a line
-mod text; // what is printed
 mod calls; // the three calls
 
 // The first letter tells the calls apart. A call that is an example of the paper has a P and its number before it.

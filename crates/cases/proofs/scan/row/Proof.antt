@@ -1,9 +1,9 @@
--- `try_settled::scan::row` is safe and ends: the measure is the number of places left. Assumes nothing.
+-- `cases::scan::row` is safe and ends: the measure is the number of places left. Assumes nothing.
 use Prim.Native.Nat.{_≤_, _-_}
 use borrow.Author.Needs.{needs}
 use lib.ListN.{length}
-use Rattle.try_settled.proofs.scan.row.Statement.{statement}
-use Rattle.try_settled.proofs.scan.row.Tie as tie
+use Rattle.cases.proofs.scan.row.Statement.{statement}
+use Rattle.cases.proofs.scan.row.Tie as tie
 
 abbrev Inv-loop : tie.InvT-loop
 Inv-loop line place at₀ passed₀ at passed = at ≤ length line

@@ -1,9 +1,9 @@
--- `try_settled::scan::number_at` is safe and ends: the measure is the number of bytes left. Assumes nothing.
+-- `cases::scan::number_at` is safe and ends: the measure is the number of bytes left. Assumes nothing.
 use Prim.Native.Nat.{_-_}
 use borrow.Author.Needs.{needs}
 use lib.ListN.{length}
-use Rattle.try_settled.proofs.scan.number_at.Statement.{statement}
-use Rattle.try_settled.proofs.scan.number_at.Tie as tie
+use Rattle.cases.proofs.scan.number_at.Statement.{statement}
+use Rattle.cases.proofs.scan.number_at.Tie as tie
 
 abbrev Inv-loop : tie.InvT-loop
 Inv-loop line from value₀ at₀ value at = Unit

@@ -1,10 +1,10 @@
--- `try_settled::scan::bytes_at` is safe and ends: the measure is the number of bytes left. Assumes nothing.
+-- `cases::scan::bytes_at` is safe and ends: the measure is the number of bytes left. Assumes nothing.
 use mathlib.Core.Path.{_≡_}
 use Prim.Native.Nat.{_≤_, _-_}
 use borrow.Author.Needs.{needs}
 use lib.ListN.{length}
-use Rattle.try_settled.proofs.scan.bytes_at.Statement.{statement}
-use Rattle.try_settled.proofs.scan.bytes_at.Tie as tie
+use Rattle.cases.proofs.scan.bytes_at.Statement.{statement}
+use Rattle.cases.proofs.scan.bytes_at.Tie as tie
 
 abbrev Inv-loop : tie.InvT-loop
 Inv-loop line from space₀ at₀ count₀ space at count = (at ≤ length line) × ((count ≤ at) × (length space ≡ length space₀))

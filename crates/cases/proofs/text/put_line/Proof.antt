@@ -1,9 +1,9 @@
--- `try_settled::text::put_line` is safe and ends: the measure is the number of bytes left. Assumes nothing.
+-- `cases::text::put_line` is safe and ends: the measure is the number of bytes left. Assumes nothing.
 use Prim.Native.Nat.{_≤_, _+_, _-_}
 use borrow.Author.Needs.{needs}
 use lib.ListN.{length}
-use Rattle.try_settled.proofs.text.put_line.Statement.{statement}
-use Rattle.try_settled.proofs.text.put_line.Tie as tie
+use Rattle.cases.proofs.text.put_line.Statement.{statement}
+use Rattle.cases.proofs.text.put_line.Tie as tie
 
 abbrev Inv-loop : tie.InvT-loop
 Inv-loop line numbers space from₀ k₀ from k = k ≤ from

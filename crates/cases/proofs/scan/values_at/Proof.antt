@@ -1,10 +1,10 @@
--- `try_settled::scan::values_at` is safe and ends: the measure is the number of bytes left. Assumes nothing.
+-- `cases::scan::values_at` is safe and ends: the measure is the number of bytes left. Assumes nothing.
 use mathlib.Core.Path.{_≡_}
 use Prim.Native.Nat.{_≤_, _-_}
 use borrow.Author.Needs.{needs}
 use lib.ListN.{length}
-use Rattle.try_settled.proofs.scan.values_at.Statement.{statement}
-use Rattle.try_settled.proofs.scan.values_at.Tie as tie
+use Rattle.cases.proofs.scan.values_at.Statement.{statement}
+use Rattle.cases.proofs.scan.values_at.Tie as tie
 
 abbrev Inv-loop : tie.InvT-loop
 Inv-loop line from values₀ at₀ count₀ values at count = (count ≤ at) × (length values ≡ length values₀)

@@ -1,9 +1,9 @@
--- `try_settled::scan::count_of` is safe and ends: the measure is the number of bytes left. Assumes nothing.
+-- `cases::scan::count_of` is safe and ends: the measure is the number of bytes left. Assumes nothing.
 use Prim.Native.Nat.{_-_}
 use borrow.Author.Needs.{needs}
 use lib.ListN.{length}
-use Rattle.try_settled.proofs.scan.count_of.Statement.{statement}
-use Rattle.try_settled.proofs.scan.count_of.Tie as tie
+use Rattle.cases.proofs.scan.count_of.Statement.{statement}
+use Rattle.cases.proofs.scan.count_of.Tie as tie
 
 abbrev Inv-loop : tie.InvT-loop
 Inv-loop byte text from count₀ at₀ count at = Unit
