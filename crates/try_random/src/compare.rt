@@ -4,17 +4,7 @@ use exhaustive::candidates::Found;
 use exhaustive::candidates::search;
 use exhaustive::received::values;
 use exhaustive::received::wide;
-
-// What was seen of a call.
-pub struct Outcome {
-    pub same: bool,
-    pub refused: bool,
-    pub tied: bool,
-    // read brings back the message of a word that is zero in the unsent places, and refuses any other
-    pub read: bool,
-    // the word in the buffer
-    pub word: u64,
-}
+use tally::Outcome;
 
 // The answer as it has to be, no bit otherwise: "A refusal returns its number with all other fields zero".
 fn same_answer(answer: decode::Decoding, found: Found) -> bool {

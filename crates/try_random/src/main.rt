@@ -4,12 +4,6 @@
 // and at it. The file `stdout` has the counts.
 ghost use Prim.Native.Nat.{_≤_};
 use crate::compare::compare;
-use crate::tally::CODEWORDS;
-use crate::tally::both;
-use crate::tally::count_outcome;
-use crate::tally::count_sent;
-use crate::tally::put;
-use crate::tally::put_tally;
 use drawn::drafts::SentWord;
 use drawn::drafts::chosen;
 use drawn::drafts::sent_word;
@@ -20,9 +14,14 @@ use drawn::random::next;
 use drawn::random::other;
 use exhaustive::roots::list_codewords;
 use exhaustive::sent::margin_of;
+use tally::CODEWORDS;
+use tally::both;
+use tally::count_outcome;
+use tally::count_sent;
+use tally::put;
+use tally::put_tally;
 
 mod compare; // a call compared with the exhaustive search
-mod tally; // what is counted
 
 // How many words are tried for each code, shortening and order. Of ten words six are random, one of each kind, and four are sent, two
 // with the wrong sum one below the bound and two at it.

@@ -1,9 +1,19 @@
-// What is counted over all words of a code, each count at its place, and printed.
+// For try_random: what was seen of a call, and what is counted over all words of a code, each count at its place, and printed.
 ghost use Prim.Native.Nat.{_<_};
-use crate::compare::Outcome;
 use exhaustive::candidates::one_more;
 use exhaustive::sent::Margin;
 use libc::STDOUT_FILENO;
+
+// What was seen of a call.
+pub struct Outcome {
+    pub same: bool,
+    pub refused: bool,
+    pub tied: bool,
+    // read brings back the message of a word that is zero in the unsent places, and refuses any other
+    pub read: bool,
+    // the word in the buffer
+    pub word: u64,
+}
 
 // The codewords of the code.
 pub const CODEWORDS: usize = 0;
