@@ -1,200 +1,163 @@
-//! Draws the word error rate of (63,45) against Eb/N0, for orders 0 to 3 and for hard decisions: `picture WORDS FILE`. A point takes WORDS
-//! random words, fewer for an order that has had 200 errors in 2,000. It prints the rates, and writes the picture to FILE.
+//! Draws what becomes of words of (63,45) against Eb/N0: `picture WORDS FILE`. Wrong words handed on stand in one panel, words wrong or
+//! refused in the other, with the same axes. It prints the tables of docs/ORDERS.md too, and writes the picture to FILE.
 mod channel;
+mod errors;
 mod library;
-use channel::{deviation, receive, Random};
+mod orders;
+use errors::{decibels, Asked, Point, ORDERS};
 use std::fmt::Write;
-use std::sync::atomic::{AtomicUsize, Ordering};
-use std::sync::Mutex;
 
-const POINTS: usize = 13; // 0 to 6 dB, in halves
-const ENOUGH: (u32, u32) = (200, 2000); // errors and words
-const SHOWN: u32 = 10; // errors of a point that is drawn
-const CURVES: [&str; 5] = ["hard decisions, t = 3", "order 0", "order 1", "order 2", "order 3"];
-const COLOURS: [&str; 5] = ["#6b7280", "#c2410c", "#a16207", "#0f766e", "#1d4ed8"];
+const SHOWN: u32 = 10; // words of a point that is drawn
+const COLOURS: [&str; ORDERS + 1] = ["#c2410c", "#a16207", "#0f766e", "#1d4ed8", "#6b7280"];
+const HARD: usize = ORDERS; // the look of the curve that is no order's
 
-#[derive(Clone, Copy, Default)]
-struct Seen {
-    words: u32,
-    errors: u32,
+// the edges of both panels, and the width of their 6 dB
+const TOP: f64 = 96.0;
+const BOTTOM: f64 = 456.0;
+const SPAN: f64 = 296.0;
+
+struct Curve {
+    look: usize,
+    points: Vec<(f64, f64)>, // Eb/N0 in decibels, and the share of the words
 }
 
-impl Seen {
-    fn add(&mut self, error: bool) {
-        self.words += 1;
-        self.errors += u32::from(error);
+impl Curve {
+    fn new(all: &[Point], look: usize, count: impl Fn(&Point) -> u32) -> Curve {
+        let shown = all.iter().enumerate().filter(|(_, seen)| count(seen) >= SHOWN);
+        Curve { look, points: shown.map(|(p, seen)| (decibels(p), f64::from(count(seen)) / f64::from(seen.words))).collect() }
     }
 
-    fn enough(&self) -> bool {
-        self.errors >= ENOUGH.0 && self.words >= ENOUGH.1
-    }
-
-    fn rate(&self) -> f64 {
-        f64::from(self.errors) / f64::from(self.words)
+    fn name(&self) -> Vec<String> {
+        if self.look == HARD { vec!["more than 3".into(), "bits wrong".into()] } else { vec![format!("order {}", self.look)] }
     }
 }
 
-fn decibels(point: usize) -> f64 {
-    point as f64 / 2.0
+struct Panel {
+    title: &'static str,
+    zero: f64, // where 0 dB stands
+    edges: (f64, f64),
+    lowest: i32,         // the lowest power of ten on the scale
+    names_at_zero: bool, // the names stand at the left ends of the curves
+    curves: Vec<Curve>,
 }
 
-// hard decisions first, then the orders, each with the same words
-fn measure(point: usize, words: u32) -> [Seen; 5] {
-    let (mut random, sigma) = (Random::new(point as u64 + 1), deviation(45.0 / 63.0, decibels(point)));
-    let mut seen = [Seen::default(); 5];
-    for _ in 0..words {
-        let (mut sent, mut soft) = ([0; 8], [0; 63]);
-        library::encode(6, 3, 0, random.below(1 << 45), &mut sent);
-        let word = u64::from_le_bytes(sent);
-        receive(&mut random, word, sigma, &mut soft);
-        let wrong = (0..63).filter(|&p| (soft[p] < 0) != (word >> p & 1 == 1)).count();
-        seen[0].add(wrong > 3);
-        for (order, one) in seen.iter_mut().skip(1).enumerate().filter(|(_, one)| !one.enough()) {
-            let mut got = [0; 8];
-            let refusal = library::decode(6, 3, 0, order as u32, &soft, &mut got, &mut []);
-            one.add(refusal > 0 || got != sent);
-        }
-        if seen.iter().all(Seen::enough) {
-            break;
-        }
-    }
-    seen
+fn text(x: f64, y: f64, anchor: &str, said: &str) -> String {
+    format!("<text x='{x:.1}' y='{y:.1}' text-anchor='{anchor}'>{said}</text>\n")
 }
 
-// the points at high Eb/N0 take longest and go first
-fn measure_all(words: u32) -> Vec<[Seen; 5]> {
-    let (next, all) = (AtomicUsize::new(0), Mutex::new(vec![[Seen::default(); 5]; POINTS]));
-    std::thread::scope(|scope| {
-        for _ in 0..std::thread::available_parallelism().map_or(1, |n| n.get()) {
-            scope.spawn(|| loop {
-                let taken = next.fetch_add(1, Ordering::Relaxed);
-                if taken >= POINTS {
-                    return;
-                }
-                let point = POINTS - 1 - taken;
-                let seen = measure(point, words);
-                all.lock().unwrap()[point] = seen;
-            });
-        }
-    });
-    all.into_inner().unwrap()
+fn line(x1: f64, y1: f64, x2: f64, y2: f64, colour: &str) -> String {
+    format!("<path d='M{x1:.1} {y1:.1}L{x2:.1} {y2:.1}' stroke='{colour}'/>\n")
 }
 
-// the plot's edges in the picture, and the lowest power of ten on its scale
-const LEFT: f64 = 76.0;
-const RIGHT: f64 = 736.0;
-const TOP: f64 = 64.0;
-const BOTTOM: f64 = 464.0;
-
-struct Plot {
-    lowest: i32,
+// a shape for each curve, so that they are told apart without colour
+fn mark(look: usize, x: f64, y: f64) -> String {
+    let shape = match look {
+        0 => "M-4 0A4 4 0 1 1 4 0A4 4 0 1 1 -4 0Z",
+        1 => "M0 -5L4.5 3.5L-4.5 3.5Z",
+        2 => "M-3.7 -3.7H3.7V3.7H-3.7Z",
+        3 => "M0 -5.2L5.2 0L0 5.2L-5.2 0Z",
+        _ => "M-3.5 -3.5L3.5 3.5M-3.5 3.5L3.5 -3.5",
+    };
+    format!("<path transform='translate({x:.1} {y:.1})' d='{shape}' fill='{0}' stroke='{0}' stroke-width='1.5'/>\n", COLOURS[look])
 }
 
-impl Plot {
-    fn x(&self, decibels: f64) -> f64 {
-        LEFT + (RIGHT - LEFT) * decibels / 6.0
+fn stroke(look: usize, points: &[(f64, f64)]) -> String {
+    let path: Vec<String> = points.iter().map(|(x, y)| format!("{x:.1} {y:.1}")).collect();
+    let dashes = if look == HARD { " stroke-dasharray='6 4'" } else { "" };
+    format!("<path d='M{}' fill='none' stroke='{}' stroke-width='2'{dashes}/>\n", path.join("L"), COLOURS[look])
+}
+
+impl Panel {
+    fn place(&self, (decibels, rate): (f64, f64)) -> (f64, f64) {
+        (self.zero + SPAN * decibels / 6.0, TOP + (BOTTOM - TOP) * rate.log10() / f64::from(self.lowest))
     }
 
-    fn y(&self, rate: f64) -> f64 {
-        TOP + (BOTTOM - TOP) * rate.log10() / f64::from(self.lowest)
-    }
-
-    fn line(&self, x1: f64, y1: f64, x2: f64, y2: f64, colour: &str) -> String {
-        format!("<path d='M{x1:.1} {y1:.1}L{x2:.1} {y2:.1}' stroke='{colour}'/>\n")
-    }
-
-    fn grid(&self) -> String {
-        let mut out = String::new();
+    fn scale(&self) -> String {
+        let ((left, right), mut out) = (self.edges, String::new());
         for power in self.lowest..=0 {
             for digit in if power < 0 { 1..10 } else { 1..2 } {
-                let y = self.y(f64::from(digit) * 10f64.powi(power));
-                out += &self.line(LEFT, y, RIGHT, y, if digit == 1 { "#d1d5db" } else { "#f0f1f3" });
+                let y = self.place((0.0, f64::from(digit) * 10f64.powi(power))).1;
+                out += &line(left, y, right, y, if digit == 1 { "#d1d5db" } else { "#f0f1f3" });
             }
             let number = if power == 0 { "1".into() } else { format!("10<tspan dy='-6' font-size='10'>\u{2212}{}</tspan>", -power) };
-            let y = self.y(10f64.powi(power)) + 4.0;
-            let _ = writeln!(out, "<text x='{}' y='{y:.1}' text-anchor='end'>{number}</text>", LEFT - 8.0);
+            out += &text(left - 8.0, self.place((0.0, 10f64.powi(power))).1 + 4.0, "end", &number);
         }
         for step in 0..=6 {
-            let x = self.x(f64::from(step));
-            out += &self.line(x, TOP, x, BOTTOM, "#d1d5db");
-            let _ = writeln!(out, "<text x='{x:.1}' y='{}' text-anchor='middle'>{step}</text>", BOTTOM + 20.0);
+            let x = self.place((f64::from(step), 1.0)).0;
+            out += &line(x, TOP, x, BOTTOM, "#d1d5db");
+            out += &text(x, BOTTOM + 20.0, "middle", &step.to_string());
         }
         out
     }
 
-    // a shape for each curve, so that they are told apart without colour
-    fn mark(&self, curve: usize, x: f64, y: f64) -> String {
-        let shape = match curve {
-            0 => "M-3.5 -3.5L3.5 3.5M-3.5 3.5L3.5 -3.5",
-            1 => "M-4 0A4 4 0 1 1 4 0A4 4 0 1 1 -4 0Z",
-            2 => "M0 -5L4.5 3.5L-4.5 3.5Z",
-            3 => "M-3.7 -3.7H3.7V3.7H-3.7Z",
-            _ => "M0 -5.2L5.2 0L0 5.2L-5.2 0Z",
-        };
-        format!("<path transform='translate({x:.1} {y:.1})' d='{shape}' fill='{0}' stroke='{0}' stroke-width='1.5'/>\n", COLOURS[curve])
+    // nothing lies to the left of order 3, and others end to its right; with 400,000 words or more no name meets a curve
+    fn name(&self, curve: &Curve) -> String {
+        let end = if self.names_at_zero { curve.points.first() } else { curve.points.last() };
+        let Some(&end) = end else { return String::new() };
+        let (aside, anchor) = if self.names_at_zero || curve.look == 3 { (-12.0, "end") } else { (12.0, "start") };
+        let ((x, y), lines) = (self.place(end), curve.name());
+        let first = y + 5.0 - 8.0 * (lines.len() - 1) as f64;
+        let written = lines.iter().enumerate().map(|(i, said)| text(x + aside, first + 16.0 * i as f64, anchor, said));
+        let clear = "stroke='#ffffff' stroke-width='4' paint-order='stroke'"; // of the lines of the scale
+        format!("<g fill='{}' font-weight='600' {clear}>\n{}</g>\n", COLOURS[curve.look], written.collect::<String>())
     }
 
-    fn stroke(&self, curve: usize, points: &[(f64, f64)]) -> String {
-        let path: Vec<String> = points.iter().map(|&(x, y)| format!("{x:.1} {y:.1}")).collect();
-        let dashes = if curve == 0 { " stroke-dasharray='6 4'" } else { "" };
-        format!("<path d='M{}' fill='none' stroke='{}' stroke-width='2'{dashes}/>\n", path.join("L"), COLOURS[curve])
-    }
-
-    fn legend(&self) -> String {
-        let (x, y) = (LEFT + 16.0, BOTTOM - 136.0);
-        let mut out = format!("<rect x='{x}' y='{y}' width='212' height='120' rx='4' fill='#ffffff' stroke='#d1d5db'/>\n");
-        for (curve, name) in CURVES.iter().enumerate() {
-            let row = y + 18.0 + 21.0 * curve as f64;
-            out += &self.stroke(curve, &[(x + 12.0, row), (x + 48.0, row)]);
-            out += &self.mark(curve, x + 30.0, row);
-            let _ = writeln!(out, "<text x='{}' y='{}'>{name}</text>", x + 58.0, row + 4.0);
+    fn drawn(&self) -> String {
+        let small = |letter| format!("<tspan dy='4' font-size='10'>{letter}</tspan>");
+        let below = format!("E{}<tspan dy='-4'>/N</tspan>{}<tspan dx='4' dy='-4'>in dB</tspan>", small('b'), small('0'));
+        let mut out = format!("<g font-weight='600'>\n{}</g>\n", text(self.edges.0, TOP - 14.0, "start", self.title));
+        out += &self.scale();
+        out += &text(self.zero + SPAN / 2.0, BOTTOM + 44.0, "middle", &below);
+        for curve in self.curves.iter().filter(|curve| !curve.points.is_empty()) {
+            let points: Vec<(f64, f64)> = curve.points.iter().map(|&point| self.place(point)).collect();
+            out += &stroke(curve.look, &points);
+            points.iter().for_each(|&(x, y)| out += &mark(curve.look, x, y));
         }
-        out
+        out + &self.curves.iter().map(|curve| self.name(curve)).collect::<String>()
     }
 }
 
-fn drawn(all: &[[Seen; 5]], words: u32) -> String {
-    let shown = |curve: usize| (0..POINTS).filter(move |&p| all[p][curve].errors >= SHOWN);
-    let least = (0..5).flat_map(|c| shown(c).map(move |p| all[p][c].rate())).fold(0.1, f64::min);
-    let plot = Plot { lowest: least.log10().floor() as i32 };
+fn panels(all: &[Point]) -> [Panel; 2] {
+    let wrong = |seen: &Point, order: usize| seen.orders[order].wrong.with(Asked::Nothing);
+    let handed = (0..ORDERS).map(|order| Curve::new(all, order, move |seen| wrong(seen, order)));
+    let lost = (0..ORDERS).map(|order| Curve::new(all, order, move |seen| seen.orders[order].refused + wrong(seen, order)));
+    let (handed, mut lost) = (handed.collect::<Vec<_>>(), lost.collect::<Vec<_>>());
+    lost.push(Curve::new(all, HARD, |seen| seen.too_many));
+    let rates = handed.iter().chain(&lost).flat_map(|curve| &curve.points).map(|point| point.1);
+    let lowest = rates.fold(0.1, f64::min).log10().floor() as i32;
+    [
+        Panel { title: "Wrong words handed on", zero: 144.0, edges: (66.0, 440.0), lowest, names_at_zero: true, curves: handed },
+        Panel { title: "Wrong or refused", zero: 486.0, edges: (486.0, 782.0), lowest, names_at_zero: false, curves: lost },
+    ]
+}
+
+fn drawn(all: &[Point]) -> String {
+    let words = orders::thousands(all[0].words);
     let mut out = format!(
-        "<svg xmlns='http://www.w3.org/2000/svg' viewBox='0 0 760 548' font-family='system-ui, Helvetica, Arial, sans-serif'\n\
-         font-size='13' fill='#1f2937'>\n\
-         <title>Word error rate of (63,45) against Eb/N0, for orders 0 to 3 and for hard decisions</title>\n\
-         <rect width='760' height='548' fill='#ffffff'/>\n\
-         <text x='{LEFT}' y='28' font-size='17' font-weight='600'>Word error rate of (63,45)</text>\n\
-         <text x='{LEFT}' y='48' fill='#6b7280'>Bits sent as +1 and \u{2212}1 in white noise, received as signed bytes; \
-         up to {words} words a point</text>\n"
+        "<svg xmlns='http://www.w3.org/2000/svg' viewBox='0 0 900 556' font-family='system-ui, Helvetica, Arial, sans-serif'\n\
+         font-size='14' fill='#1f2937'>\n\
+         <title>Words of (63,45) that are handed on wrong, and that are wrong or refused, against Eb/N0, for orders 0 to 3</title>\n\
+         <rect width='900' height='556' fill='#ffffff'/>\n\
+         <text x='66' y='28' font-size='18' font-weight='600'>Words of (63,45) in noise, orders 0 to 3</text>\n\
+         <text x='66' y='50' fill='#4b5563'>{words} words a point, the same for all orders; \
+         bits sent as +1 and \u{2212}1 in white noise, received as signed bytes</text>\n"
     );
-    out += &plot.grid();
-    let (middle, below) = ((LEFT + RIGHT) / 2.0, BOTTOM + 46.0);
-    let small = |letter| format!("<tspan dy='4' font-size='10'>{letter}</tspan>");
+    out += &panels(all).iter().map(Panel::drawn).collect::<String>();
     let _ = writeln!(
         out,
-        "<text x='{middle}' y='{below}' text-anchor='middle'>E{}<tspan dy='-4'>/N</tspan>{}<tspan dx='4' dy='-4'>in dB</tspan></text>",
-        small('b'), small('0')
+        "<text transform='translate(18 {}) rotate(-90)' text-anchor='middle'>share of the words sent</text>\n\
+         <g font-size='12' fill='#4b5563'>\n\
+         <text x='66' y='528'>More than 3 bits wrong: hard decisions with more than t = 3 errors. \
+         It counts received words and is no decoder\u{2019}s result.</text>\n\
+         <text x='66' y='545'>A point at which fewer than {SHOWN} words were counted is left out.</text>\n</g>",
+        (TOP + BOTTOM) / 2.0
     );
-    let _ = writeln!(out, "<text transform='translate(22 {}) rotate(-90)' text-anchor='middle'>word error rate</text>", (TOP + BOTTOM) / 2.0);
-    let _ = writeln!(out, "<text x='{LEFT}' y='536' font-size='11' fill='#6b7280'>A point with fewer than {SHOWN} errors is left out.</text>");
-    for curve in 0..5 {
-        let points: Vec<(f64, f64)> = shown(curve).map(|p| (plot.x(decibels(p)), plot.y(all[p][curve].rate()))).collect();
-        if !points.is_empty() {
-            out += &plot.stroke(curve, &points);
-            points.iter().for_each(|&(x, y)| out += &plot.mark(curve, x, y));
-        }
-    }
-    out += &plot.legend();
     out + "</svg>\n"
 }
 
 fn main() {
     let arguments: Vec<String> = std::env::args().collect();
-    let (words, file) = (arguments[1].parse().expect("the number of words"), &arguments[2]);
-    let all = measure_all(words);
-    println!("{:<8}{:>14}{:>14}{:>14}{:>14}{:>14}", "dB", "hard", "order 0", "order 1", "order 2", "order 3");
-    for (point, seen) in all.iter().enumerate() {
-        let rates = seen.iter().map(|s| if s.errors == 0 { format!("0 of {}", s.words) } else { format!("{:.2e}", s.rate()) });
-        println!("{:<8}{}", decibels(point), rates.map(|rate| format!("{rate:>14}")).collect::<String>());
-    }
-    std::fs::write(file, drawn(&all, words)).expect("the picture's file");
+    let all = errors::measure_all(arguments[1].parse().expect("the number of words"));
+    orders::print(&all);
+    std::fs::write(&arguments[2], drawn(&all)).expect("the picture's file");
 }

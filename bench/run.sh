@@ -1,8 +1,9 @@
 #!/bin/sh
 # Holds the calls that C hosts link against another implementation, and measures them:
-#     bench/run.sh                   compare, run the example, print instructions, time, entered patterns and stack
-#     bench/run.sh picture [WORDS]   draw docs/word-error-rate.svg with this many words a point (20000)
-# Needs rt, gcc and rustc, and valgrind for the instructions and the entered patterns. What it builds goes to a temporary folder.
+#     bench/run.sh                   compare, run the example, print instructions and time beside plain C, entered patterns and stack
+#     bench/run.sh picture [WORDS]   draw docs/word-error-rate.svg and print the tables of docs/ORDERS.md, with this many words a point (1000000)
+# Needs rt, gcc and rustc, and valgrind for the instructions and the entered patterns. What it builds goes to a temporary folder. It fails
+# where an answer differs.
 set -e
 cd "$(dirname "$0")/.."
 library=target/staticlib/libexport.a
@@ -10,16 +11,21 @@ build=$(mktemp -d)
 trap 'rm -rf "$build"' EXIT
 
 rt staticlib export >"$build/log" 2>&1 || { cat "$build/log"; exit 1; }
-rust() { rustc -O --edition 2021 -o "$build/$1" "bench/$1.rs" -L native=target/staticlib -l static=export; }
+rust() { name=$1; shift; rustc -O --edition 2021 -o "$build/$name" "bench/$name.rs" -L native=target/staticlib -l static=export "$@"; }
 c() { gcc -O2 -Wall -Wextra -I include -o "$build/$1" "$2" "$library"; }
+# the two versions of bench/plain.c. Functions are aligned, or their time would hang on what they are linked with
+plain() {
+    gcc -O3 -falign-functions=64 -Wall -Wextra -c -o "$build/plain.o" bench/plain.c
+    gcc -O3 -falign-functions=64 -Wall -Wextra -DSTRAIGHT -Dplain_start=straight_start -Dplain_decode=straight_decode -c -o "$build/straight.o" bench/plain.c
+}
 
 if [ "$1" = picture ]; then
     rust picture
-    "$build/picture" "${2:-20000}" docs/word-error-rate.svg
+    "$build/picture" "${2:-1000000}" docs/word-error-rate.svg
     exit
 fi
 
-rust compare && rust cost && rust program && c host examples/host.c && c stack bench/stack.c
+rust compare && plain && rust cost -C link-arg="$build/plain.o" -C link-arg="$build/straight.o" && rust program && c host examples/host.c && c stack bench/stack.c
 
 echo "== the calls and bench/reference.rs"
 "$build/compare"
@@ -27,14 +33,16 @@ echo "== the calls and bench/reference.rs"
 echo "== examples/host.c"
 "$build/host"
 
-echo "== instructions (callgrind: the same from run to run) and time, the best of 20 rounds over 16 words"
+echo "== the calls and plain C (bench/plain.c) at 4 dB: instructions (callgrind: the same from run to run) on 64 words a code, plain C branching"
+echo "   on bits; time on fresh words, plain C with arithmetic in place of these branches"
+failed=0
 if command -v valgrind >/dev/null; then
-    env -i "$(command -v valgrind)" --tool=callgrind --toggle-collect='malligovu_*' --dump-before=mark_begin --dump-after=mark_end \
-        --callgrind-out-file="$build/counts" "$build/cost" count >"$build/log" 2>&1 || { cat "$build/log"; exit 1; }
-    "$build/cost" "$build/counts"
+    env -i "$(command -v valgrind)" --tool=callgrind --toggle-collect='malligovu_*' --toggle-collect=plain_decode --dump-before=mark_begin \
+        --dump-after=mark_end --callgrind-out-file="$build/counts" "$build/cost" count >"$build/log" 2>&1 || { cat "$build/log"; exit 1; }
+    "$build/cost" "$build/counts" || failed=1
 else
     echo "valgrind is not here: time alone"
-    "$build/cost"
+    "$build/cost" || failed=1
 fi
 
 echo "== the program, m = 6, t = 3, order 0, 10,000 words"
@@ -55,3 +63,5 @@ echo "== stack, and what is linked"
 LD_BIND_NOW=1 "$build/stack"
 bytes=$(size -t "$library" | awk 'END { print $1 + $2 }')
 echo "code and tables: $bytes bytes; from the C library: $(nm -u "$library" | awk '/ U / { print $2 }' | xargs)"
+[ "$failed" = 0 ] || echo "failed: the calls and plain C"
+exit "$failed"

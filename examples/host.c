@@ -1,7 +1,8 @@
-/* A host of the coding layer: a message is encoded, sent over a noisy path, decoded and read back; and a call is refused.
+/* A host of the coding layer: a message is encoded, sent over a noisy path, decoded and read back; and a call is refused. In C and in C++.
 
-       rt staticlib export
-       gcc -I include -o host examples/host.c target/staticlib/libexport.a && ./host */
+       cc host.c $(pkg-config --cflags --libs malligovu) -o host && ./host
+
+   (install.sh puts the library where pkg-config finds it; bench/installed.sh tries this, static and shared.) */
 #include <inttypes.h>
 #include <malligovu.h>
 #include <stdio.h>
@@ -9,7 +10,8 @@
 /* the code: m = 6 and t = 3 give words of 63 bits with 45 message bits; s = 3 of them are left out, so 60 bits are sent */
 enum { M = 6, T = 3, S = 3, BITS = 60, ORDER = 2 };
 
-/* noise of a deviation near 0.6, picked so that some bits are heard wrongly and the word still comes back: twelve uniform numbers, summed, are near enough to a normal one */
+/* noise of a deviation near 0.6, picked so that some bits are heard wrongly and the word still comes back: twelve uniform numbers,
+   summed, are near enough to a normal one */
 static double noise(void) {
     static uint32_t state = 1;
     double sum = -6;
@@ -23,14 +25,21 @@ static int8_t heard(int bit) {
     return value > 127 ? 127 : value < -128 ? -128 : (int8_t)value;
 }
 
+/* says which call was refused, and with which number */
+static int refused(const char *call, uint32_t number) {
+    printf("%s refused with %" PRIu32 "\n", call, number);
+    return 1;
+}
+
 int main(void) {
     uint64_t message = 0x2a5f00c0de, back = 0;
-    uint8_t sent[8], got[8];
-    int8_t soft[BITS];
-    uint32_t figures[3];
+    uint8_t sent[MALLIGOVU_MOST_BYTES], got[MALLIGOVU_MOST_BYTES];
+    int8_t soft[MALLIGOVU_MOST_VALUES];
+    uint32_t figures[MALLIGOVU_FIGURES], number;
     int wrong = 0;
 
-    if (malligovu_encode(M, T, S, message, sent, sizeof sent)) return 1;
+    number = malligovu_encode(M, T, S, message, sent, sizeof sent);
+    if (number != MALLIGOVU_TAKEN) return refused("encode", number);
     for (int i = 0; i < BITS; i++) {
         int bit = sent[i / 8] >> i % 8 & 1;
         soft[i] = heard(bit);
@@ -38,13 +47,18 @@ int main(void) {
     }
     printf("sent      %010" PRIx64 " in %d bits, %d of them heard wrongly\n", message, BITS, wrong);
 
-    if (malligovu_decode(M, T, S, ORDER, soft, BITS, got, sizeof got, figures, 3)) return 1;
-    printf("decoded   soft distance %" PRIu32 ", %" PRIu32 " bits put right, %" PRIu32 " candidates\n", figures[0], figures[1], figures[2]);
+    number = malligovu_decode(M, T, S, ORDER, soft, BITS, got, sizeof got, figures, MALLIGOVU_FIGURES);
+    if (number != MALLIGOVU_TAKEN) return refused("decode", number);
+    printf("decoded   soft distance %" PRIu32 ", %" PRIu32 " bits put right, %" PRIu32 " candidates\n", figures[MALLIGOVU_DISTANCE],
+           figures[MALLIGOVU_FLIPS], figures[MALLIGOVU_CANDIDATES]);
 
-    if (malligovu_read(M, T, S, got, sizeof got, &back, 1)) return 1;
+    /* where S > 0 a decoded word may have a one that was never sent, and is then refused here */
+    number = malligovu_read(M, T, S, got, sizeof got, &back, 1);
+    if (number != MALLIGOVU_TAKEN) return refused("read", number);
     printf("read      %010" PRIx64 "\n", back);
 
-    /* one value is missing: refused with 4, and nothing is written */
-    printf("refused   %" PRIu32 "\n", malligovu_decode(M, T, S, ORDER, soft, BITS - 1, got, sizeof got, figures, 3));
-    return back != message;
+    /* one value is missing: nothing is written */
+    number = malligovu_decode(M, T, S, ORDER, soft, BITS - 1, got, sizeof got, figures, MALLIGOVU_FIGURES);
+    if (number == MALLIGOVU_WRONG_COUNT) printf("refused   %" PRIu32 ", a count of values other than n - s\n", number);
+    return back != message || number != MALLIGOVU_WRONG_COUNT;
 }

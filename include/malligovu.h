@@ -10,23 +10,15 @@
    A word is its n bits in W bytes: bit j is bit j mod 8 of byte j div 8. Message bit i, for i below k - s, stands at position
    n - k + i, the parity below it, and zeros above it.
 
-   Each function returns 0, or the number of the first check that is met, in the order that stands at the function:
-
-       1   m is not 4 to 6, or t is not 1 to 3
-       2   s is k or more
-       3   order is above 3
-       4   the count of soft values is not n - s
-       5   there are fewer than W bytes
-       6   no candidate exists
-       7   the message is 2^(k-s) or more
-       8   the word is no codeword, or its pad bit or an unsent bit is 1
-
-   Where it returns any number but 0, nothing is written anywhere. Where it returns 0, it has written what stands at the function,
-   and nothing past that.
+   Each function returns 0, or the number of the first check that is met, in the order that stands at the function. Where it
+   returns any number but 0, nothing is written anywhere. Where it returns 0, it has written what stands at the function, and
+   nothing past that.
 
    Any number may be passed for m, t, s, order and the message, and any length. A pointer points to as many values as the length
    after it says and is aligned for them; a null pointer goes only with a length of 0. Memory that is written overlaps no other.
-   The functions keep nothing from call to call, allocate nothing, and may run in several threads at once. */
+
+   For x86-64 Linux. The functions keep nothing from call to call, allocate nothing, and may run in several threads at once. They
+   need memcpy and memset of the C library and nothing else. Encode and read take some 400 instructions and under 200 bytes of stack. */
 #ifndef MALLIGOVU_H
 #define MALLIGOVU_H
 
@@ -37,12 +29,41 @@
 extern "C" {
 #endif
 
+/* The last change request that is in (CHANGES.md has them); 0 before the first. Figures are only ever added after those that are there. */
+#define MALLIGOVU_VERSION 0
+
+/* The most of any code: the bytes of a word, W, and the soft values of a received word, n - s. */
+#define MALLIGOVU_MOST_BYTES 8
+#define MALLIGOVU_MOST_VALUES 63
+
+/* What a function returns. */
+enum malligovu_refusal {
+    MALLIGOVU_TAKEN = 0,            /* nothing is refused */
+    MALLIGOVU_UNKNOWN_CODE = 1,     /* m is not 4 to 6, or t is not 1 to 3 */
+    MALLIGOVU_LARGE_SHORTENING = 2, /* s is k or more */
+    MALLIGOVU_HIGH_ORDER = 3,       /* order is above 3 */
+    MALLIGOVU_WRONG_COUNT = 4,      /* the count of soft values is not n - s */
+    MALLIGOVU_SMALL_BUFFER = 5,     /* there are fewer than W bytes */
+    MALLIGOVU_NO_CANDIDATE = 6,     /* no candidate exists */
+    MALLIGOVU_LARGE_MESSAGE = 7,    /* the message is 2^(k-s) or more */
+    MALLIGOVU_UNREADABLE = 8        /* the word is no codeword, or its pad bit or an unsent bit is 1 */
+};
+
+/* Where decode's figures stand, and how many there are. */
+enum malligovu_figure {
+    MALLIGOVU_DISTANCE = 0,   /* the word's soft distance */
+    MALLIGOVU_FLIPS = 1,      /* at how many positions it differs from the received bits */
+    MALLIGOVU_CANDIDATES = 2, /* how many candidates there are */
+    MALLIGOVU_FIGURES = 3
+};
+
 /* Encodes a message.
    Checks: 1, 2, 7, 5.
    Writes: the word into the first W bytes of `word`. */
 uint32_t malligovu_encode(uint32_t m, uint32_t t, uint32_t s, uint64_t message, uint8_t *word, size_t word_length);
 
-/* Reads the message of the word in the first W bytes of `word`; corrects nothing.
+/* Reads the message of the word in the first W bytes of `word`; corrects nothing. Where s > 0 it may refuse, with 8, a word that
+   decode wrote: one that has a one at an unsent position.
    Checks: 1, 2, 5, 8.
    Writes: the message into message[0]; nothing where `message_length` is 0. */
 uint32_t malligovu_read(uint32_t m, uint32_t t, uint32_t s, const uint8_t *word, size_t word_length, uint64_t *message,
@@ -53,9 +74,12 @@ uint32_t malligovu_read(uint32_t m, uint32_t t, uint32_t s, const uint8_t *word,
    (among equals the lower is taken), it takes the one of least soft distance, the lowest as a number where several tie. The soft
    distance is the sum of the reliabilities where they differ. An unsent position counts as the value 127, and a word with a one
    there is written as it is.
+   A higher order refuses less and, up to order 2, writes more words that were not sent; order 0 loses more words than hard decisions
+   do. A host to which a wrong word is worse than none goes by the distance, which tells more, and the flips (docs/ORDERS.md).
+   Stack: under 3,500 bytes. Instructions a word in noise at 4 dB, on average, at orders 0, 1, 2, 3: 5,900, 6,400, 7,600, 44,500 for
+   n = 63, t = 3; 2,700, 3,000, 7,500, 30,300 for n = 15, t = 1; the dearest is n = 63, t = 1, with 654,900 at order 3.
    Checks: 1, 2, 3, 4, 5, 6.
-   Writes: the word into the first W bytes of `word`; and into `figures`, as many as there is room for, figures[0], the word's soft
-   distance, figures[1], at how many positions it differs from the received bits, and figures[2], how many candidates there are. */
+   Writes: the word into the first W bytes of `word`; and into `figures`, as many as there is room for, the figures above. */
 uint32_t malligovu_decode(uint32_t m, uint32_t t, uint32_t s, uint32_t order, const int8_t *soft, size_t soft_length,
                           uint8_t *word, size_t word_length, uint32_t *figures, size_t figures_length);
 

@@ -32,7 +32,8 @@ unflipped c = record { m = c .m; t = c .t; s = c .s; order = 0; soft = c .soft; 
 abbrev pub UnflippedOnly : Decoder → Type 0
 UnflippedOnly d = (c : Call) → checksOf c ≡ 0 → d c .after ≡ resultOf (unflipped c) .after
 
--- "one that invents the candidate count": its count is the same whatever values are received, as a constant or a number of patterns is
+-- "one that invents the candidate count": its count is the same whatever values are received, as a constant or a number of patterns is. An
+-- invented count that varies with the values is ruled out by NothingElseMeetsThem (Claims)
 abbrev pub InventsCount : Decoder → Type 0
 InventsCount d = (c e : Call) → c .m ≡ e .m → c .t ≡ e .t → c .s ≡ e .s → c .order ≡ e .order
     → d c .answer .refusal ≡ 0 → d e .answer .refusal ≡ 0 → d c .answer .candidates ≡ d e .answer .candidates

@@ -1,4 +1,6 @@
 // The product: standard input to standard output, a read at a time. All that a read answers is written before the next.
+mod usage;
+
 ghost use mathlib.Core.Path.{_≡_};
 ghost use Prim.Native.Nat.{_≤_};
 ghost use lib.ListN.{length};
@@ -101,9 +103,18 @@ fn run(line: &mut [u8], block: &mut [u8], out: &mut [u8])
     }
 }
 
-fn main() {
+// The memory of a run.
+fn answer_input() {
     let mut line = [0u8; 513];
     let mut block = [0u8; 4096];
     let mut out = [0u8; 262144];
     run(&mut line, &mut block, &mut out);
+}
+
+fn main() {
+    if os::arg_count() > 1 {
+        usage::say();
+    } else {
+        answer_input();
+    }
 }

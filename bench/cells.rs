@@ -1,0 +1,98 @@
+//! What is measured: encode and read at (63,45), and decode, in plain C and proved, at each code and order; and the words that they are given.
+use crate::channel::{deviation, receive, Random};
+use crate::library;
+use crate::plain::{self, Answer, Version};
+
+const CODES: [(u32, u32, u32); 9] = [(4, 1, 11), (4, 2, 7), (4, 3, 5), (5, 1, 26), (5, 2, 21), (5, 3, 16), (6, 1, 57), (6, 2, 51), (6, 3, 45)];
+pub const ORDERS: usize = 4;
+
+/// A code and an order.
+#[derive(Clone, Copy)]
+pub struct Cell {
+    pub m: u32,
+    pub t: u32,
+    pub k: u32,
+    pub order: u32,
+}
+
+/// All of them, a code's orders together.
+pub fn cells() -> Vec<Cell> {
+    CODES.iter().flat_map(|&(m, t, k)| (0..ORDERS as u32).map(move |order| Cell { m, t, k, order })).collect()
+}
+
+/// The code of encode and read.
+pub const LARGEST: Cell = Cell { m: 6, t: 3, k: 45, order: 0 };
+
+/// A message, its codeword, and what is received of it.
+pub struct Word {
+    message: u64,
+    sent: [u8; 8],
+    soft: Vec<i8>,
+}
+
+impl Cell {
+    pub fn n(&self) -> usize {
+        (1 << self.m) - 1
+    }
+
+    pub fn code(&self) -> String {
+        format!("({},{}) t = {}", self.n(), self.k, self.t)
+    }
+
+    /// How many patterns there are: the sum of C(n - 2t, i) for i up to the order.
+    pub fn patterns(&self) -> u64 {
+        let reliable = self.n() as u64 - 2 * u64::from(self.t);
+        let flipping = |i: u64| (0..i).fold(1, |product, j| product * (reliable - j) / (j + 1));
+        (0..=u64::from(self.order)).map(flipping).sum()
+    }
+
+    /// Random codewords in noise at 4 dB.
+    pub fn words(&self, random: &mut Random, count: usize) -> Vec<Word> {
+        let sigma = deviation(f64::from(self.k) / self.n() as f64, 4.0);
+        let mut one = || {
+            let mut word = Word { message: random.below(1 << self.k), sent: [0; 8], soft: vec![0; self.n()] };
+            library::encode(self.m, self.t, 0, word.message, &mut word.sent);
+            receive(random, u64::from_le_bytes(word.sent), sigma, &mut word.soft);
+            word
+        };
+        (0..count).map(|_| one()).collect()
+    }
+
+    pub fn plain(&self, version: Version, s: u32, soft: &[i8]) -> Answer {
+        plain::decode(version, self.m, self.t, s, self.order, soft)
+    }
+
+    pub fn proved(&self, s: u32, soft: &[i8]) -> Answer {
+        let (mut bytes, mut figures) = ([0; 8], [0; 3]);
+        let refusal = library::decode(self.m, self.t, s, self.order, soft, &mut bytes, &mut figures);
+        let [distance, flips, candidates] = figures;
+        Answer { refusal, distance, flips, candidates, word: u64::from_le_bytes(bytes) }
+    }
+}
+
+#[derive(Clone, Copy)]
+pub enum Call {
+    Encode,
+    Read,
+    Plain(Version, Cell),
+    Proved(Cell),
+}
+
+impl Call {
+    pub fn make(self, word: &Word) -> Answer {
+        match self {
+            Call::Encode => {
+                let mut bytes = [0; 8];
+                let refusal = library::encode(LARGEST.m, LARGEST.t, 0, word.message, &mut bytes);
+                Answer { refusal, word: u64::from_le_bytes(bytes), ..Answer::default() }
+            }
+            Call::Read => {
+                let mut message = [0];
+                let refusal = library::read(LARGEST.m, LARGEST.t, 0, &word.sent, &mut message);
+                Answer { refusal, word: message[0], ..Answer::default() }
+            }
+            Call::Plain(version, cell) => cell.plain(version, 0, &word.soft),
+            Call::Proved(cell) => cell.proved(0, &word.soft),
+        }
+    }
+}

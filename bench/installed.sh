@@ -1,0 +1,102 @@
+#!/bin/sh
+# Installs into a temporary folder and tries what is there as a user would: host.c from another folder by pkg-config alone, in C and in C++,
+# shared and static, and host.py; the program on its example, with an argument, and split over all cores; the manual; what install.sh says
+# where it can't; and that nothing is left when it is uninstalled.
+#     bench/installed.sh
+# Needs rt, cc, c++, pkg-config and python3. What needs mandoc, GNU parallel or another user is left out where that is missing, and said.
+cd "$(dirname "$0")/.." || exit 1
+root=$PWD build=$(mktemp -d) tried=0 bad=0
+trap 'rm -rf "$build"' EXIT
+chmod 755 "$build"
+
+report() { # WHAT STATUS
+    tried=$((tried + 1))
+    [ "$2" -eq 0 ] && echo "ok      $1" || { bad=$((bad + 1)); echo "WRONG   $1"; }
+}
+
+try() { # WHAT COMMAND..
+    what=$1
+    shift
+    "$@" >"$build/out" 2>&1
+    report "$what" $?
+}
+
+# an install that can't be: it fails with one line that says why, and makes nothing
+refused() { # WHAT WORDS FOLDER COMMAND..
+    what=$1 words=$2 folder=$3
+    shift 3
+    ! "$@" 2>"$build/out" >/dev/null && [ "$(wc -l <"$build/out")" -eq 1 ] && grep -q "$words" "$build/out" && [ ! -e "$folder" ]
+    report "$what: $(cat "$build/out")" $?
+}
+
+echo "== install.sh where it can't"
+refused "no prefix" "usage" "$build/none" ./install.sh
+refused "two" "usage" "$build/none" ./install.sh "$build/none" "$build/more"
+refused "an option" "usage" "$build/none" ./install.sh --help
+touch "$build/file"
+refused "under a file" "can't be written" "$build/file/here" ./install.sh "$build/file/here"
+refused "in /proc" "can't be made" /proc/malligovu ./install.sh /proc/malligovu
+mkdir "$build/tools" && for tool in sh dirname mktemp cc; do ln -s "$(command -v $tool)" "$build/tools/"; done
+refused "no rt" "rt, the command" "$build/none" env PATH="$build/tools" ./install.sh "$build/none"
+if [ "$(id -u)" -eq 0 ] && command -v setpriv >/dev/null; then
+    mkdir "$build/closed"
+    refused "a folder of another user's" "can't be written" "$build/closed/bin" \
+        setpriv --reuid=65534 --clear-groups env PATH="$PATH" ./install.sh "$build/closed"
+else
+    echo "left out: a folder of another user's"
+fi
+mkdir -p "$build/half/lib/libmalligovu.so"
+refused "a folder in a file's place" "is a folder" "$build/half/bin" ./install.sh "$build/half"
+[ "$(find "$build/half" | wc -l)" -eq 3 ]
+report "nothing is left of it" $?
+
+echo "== install.sh"
+./install.sh "$build/first" >"$build/said" || { report "install" 1; exit 1; }
+mv "$build/first" "$build/prefix" && prefix=$build/prefix
+(cd "$prefix" && find . -type f | sort)
+
+echo "== a host, from another folder, by pkg-config alone"
+export PKG_CONFIG_PATH="$prefix/lib/pkgconfig" LD_LIBRARY_PATH="$prefix/lib"
+mkdir "$build/elsewhere" && cp examples/host.c examples/host.py "$build/elsewhere/" && cd "$build/elsewhere" || exit 1
+cp host.c host.cc
+try "C, shared" cc -Wall -Wextra -o shared host.c $(pkg-config --cflags --libs malligovu)
+try "C, static" cc -Wall -Wextra -static -o static host.c $(pkg-config --cflags --static --libs malligovu)
+try "C++, shared" c++ -Wall -Wextra -o shared++ host.cc $(pkg-config --cflags --libs malligovu)
+try "C++, static" c++ -Wall -Wextra -static -o static++ host.cc $(pkg-config --cflags --static --libs malligovu)
+./shared >want
+report "it runs:" $?
+cat want
+for host in static shared++ static++; do
+    ./$host >got && cmp -s want got
+    report "$host prints the same" $?
+done
+python3 host.py >got && cmp -s want got
+report "host.py prints the same" $?
+
+echo "== the program"
+program=$prefix/bin/malligovu cases=$root/crates/malligovu
+"$program" <"$cases/stdin" >got && cmp -s "$cases/stdout" got
+report "its stored input" $?
+"$program" --help <"$cases/stdin" >got 2>said && [ ! -s got ] && grep -q usage said
+report "with an argument: $(head -n 1 said)" $?
+if command -v parallel >/dev/null; then
+    { head -n 1 "$cases/stdin"; for _ in $(seq 200); do tail -n +2 "$cases/stdin"; echo; done; } >input
+    "$program" <input >want && parallel --pipe --header : -k "$program" <input >got 2>said && cmp -s want got
+    report "GNU parallel over $(nproc) cores, $(wc -c <input) bytes: as one run" $?
+else
+    echo "left out: GNU parallel"
+fi
+
+echo "== the manual"
+if command -v mandoc >/dev/null; then
+    mandoc -T lint "$prefix/share/man/man1/malligovu.1" "$prefix/share/man/man3/malligovu.3"
+    report "mandoc -T lint" $?
+else
+    echo "left out: mandoc"
+fi
+
+echo "== uninstall"
+cd "$build" && mv "$prefix" "$build/first" && sh -c "$(sed -n 's/^to uninstall: //p' "$build/said")" && [ -z "$(find "$build/first" -type f)" ]
+report "no file is left" $?
+echo "$tried tried, $bad wrong"
+[ $bad -eq 0 ]
