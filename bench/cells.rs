@@ -1,9 +1,8 @@
 //! What is measured: encode and read at (63,45), and decode, in plain C and proved, at each code and order; and the words that they are given.
 use crate::channel::{deviation, receive, Random};
-use crate::library;
+use crate::library::{self, CODES};
 use crate::plain::{self, Answer, Version};
 
-const CODES: [(u32, u32, u32); 9] = [(4, 1, 11), (4, 2, 7), (4, 3, 5), (5, 1, 26), (5, 2, 21), (5, 3, 16), (6, 1, 57), (6, 2, 51), (6, 3, 45)];
 pub const ORDERS: usize = 4;
 
 /// A code and an order.

@@ -1,15 +1,24 @@
-//! What becomes of words of (63,45) in noise, order by order: refused, handed on though another was sent, or handed on right. All
-//! orders decode the same words, and a point takes all its words: stopping at so many errors would make the rare ones uncertain.
+//! What becomes of words in noise, order by order: refused, handed on though another was sent, or handed on right. All orders decode the
+//! same words, and a point takes all its words: stopping at so many errors would make the rare ones uncertain.
 use crate::channel::{deviation, receive, Random};
 use crate::library;
 use std::sync::atomic::{AtomicUsize, Ordering};
 use std::sync::Mutex;
 
-pub const POINTS: usize = 13; // 0 to 6 dB, in halves
 pub const ORDERS: usize = 4;
-const N: usize = 63;
-const T: usize = 3;
-const FARTHEST: usize = N * 128;
+
+#[derive(Clone, Copy, PartialEq)]
+pub struct Code {
+    pub m: u32,
+    pub t: u32,
+    pub k: u32,
+}
+
+impl Code {
+    pub fn n(&self) -> usize {
+        (1 << self.m) - 1
+    }
+}
 
 /// What a host may ask of a word that it is handed.
 #[derive(Clone, Copy)]
@@ -29,8 +38,8 @@ pub struct Handed {
 }
 
 impl Handed {
-    fn new() -> Handed {
-        Handed { flips: vec![0; N + 1], distances: vec![0; FARTHEST + 1], nearest: 0 }
+    fn new(n: usize) -> Handed {
+        Handed { flips: vec![0; n + 1], distances: vec![0; 128 * n + 1], nearest: 0 }
     }
 
     fn add(&mut self, flips: usize, distance: usize, nearest: bool) {
@@ -58,69 +67,75 @@ pub struct Order {
 }
 
 impl Order {
-    fn add(&mut self, order: u32, soft: &[i8; N], sent: [u8; 8]) {
+    fn add(&mut self, code: Code, order: u32, soft: &[i8], sent: [u8; 8]) {
         let (mut got, mut figures) = ([0; 8], [0; 2]);
-        if library::decode(6, T as u32, 0, order, soft, &mut got, &mut figures) > 0 {
+        if library::decode(code.m, code.t, 0, order, soft, &mut got, &mut figures) > 0 {
             self.refused += 1;
             return;
         }
         let [distance, flips] = figures.map(|figure| figure as usize);
-        let nearest = is_nearest(soft, u64::from_le_bytes(got), distance, flips);
+        let nearest = is_nearest(code, soft, u64::from_le_bytes(got), distance, flips);
         let handed = if got == sent { &mut self.right } else { &mut self.wrong };
         handed.add(flips, distance, nearest);
     }
 }
 
+/// What is measured at one Eb/N0, in decibels: so many words of a code, from random numbers of its own.
+#[derive(Clone, Copy)]
+pub struct Asking {
+    pub code: Code,
+    pub decibels: f64,
+    pub words: u32,
+    pub seed: u64,
+}
+
 #[derive(Clone)]
 pub struct Point {
-    pub words: u32,
-    pub too_many: u32, // words received with more than T wrong bits
+    pub of: Asking,
+    pub too_many: u32, // words received with more than t wrong bits
     pub orders: Vec<Order>,
 }
 
-pub fn decibels(point: usize) -> f64 {
-    point as f64 / 2.0
-}
-
-fn agrees(soft: &[i8; N], word: u64, p: usize) -> bool {
+fn agrees(soft: &[i8], word: u64, p: usize) -> bool {
     (soft[p] < 0) == (word >> p & 1 == 1)
 }
 
 // the margin of OthersAreFarther, in crates/sent/specs/Claims.antt; nothing is summed where there are more than 2t flips
-fn is_nearest(soft: &[i8; N], word: u64, distance: usize, flips: usize) -> bool {
-    let mut sizes = [u8::MAX; N]; // more than any size, so that what differs goes last
-    (0..N).filter(|&p| agrees(soft, word, p)).for_each(|p| sizes[p] = soft[p].unsigned_abs());
+fn is_nearest(code: Code, soft: &[i8], word: u64, distance: usize, flips: usize) -> bool {
+    let mut sizes: Vec<u8> = (0..soft.len()).filter(|&p| agrees(soft, word, p)).map(|p| soft[p].unsigned_abs()).collect();
     sizes.sort_unstable();
-    distance < sizes.iter().take((2 * T + 1).saturating_sub(flips)).map(|&size| usize::from(size)).sum()
+    distance < sizes.iter().take((2 * code.t as usize + 1).saturating_sub(flips)).map(|&size| usize::from(size)).sum()
 }
 
-fn measure(point: usize, words: u32) -> Point {
-    let (mut random, sigma) = (Random::new(point as u64 + 1), deviation(45.0 / 63.0, decibels(point)));
-    let none = Order { refused: 0, wrong: Handed::new(), right: Handed::new() };
-    let mut seen = Point { words, too_many: 0, orders: vec![none; ORDERS] };
-    for _ in 0..words {
-        let (mut sent, mut soft) = ([0; 8], [0; N]);
-        assert_eq!(library::encode(6, T as u32, 0, random.below(1 << 45), &mut sent), 0);
+fn measure(of: Asking) -> Point {
+    let (code, n) = (of.code, of.code.n());
+    let (mut random, sigma) = (Random::new(of.seed), deviation(f64::from(code.k) / n as f64, of.decibels));
+    let none = Order { refused: 0, wrong: Handed::new(n), right: Handed::new(n) };
+    let mut seen = Point { of, too_many: 0, orders: vec![none; ORDERS] };
+    let mut soft = vec![0; n];
+    for _ in 0..of.words {
+        let mut sent = [0; 8];
+        assert_eq!(library::encode(code.m, code.t, 0, random.below(1 << code.k), &mut sent), 0);
         let word = u64::from_le_bytes(sent);
         receive(&mut random, word, sigma, &mut soft);
-        seen.too_many += u32::from((0..N).filter(|&p| !agrees(&soft, word, p)).count() > T);
-        seen.orders.iter_mut().enumerate().for_each(|(order, one)| one.add(order as u32, &soft, sent));
+        seen.too_many += u32::from((0..n).filter(|&p| !agrees(&soft, word, p)).count() > code.t as usize);
+        seen.orders.iter_mut().enumerate().for_each(|(order, one)| one.add(code, order as u32, &soft, sent));
     }
     seen
 }
 
-/// All points, each from random numbers of its own: what is counted does not depend on the threads.
-pub fn measure_all(words: u32) -> Vec<Point> {
-    let (next, all) = (AtomicUsize::new(0), Mutex::new(vec![None; POINTS]));
+/// All points in the order asked. What is counted does not depend on the threads.
+pub fn measure_all(asked: &[Asking]) -> Vec<Point> {
+    let (next, all) = (AtomicUsize::new(0), Mutex::new(vec![None; asked.len()]));
     std::thread::scope(|scope| {
         for _ in 0..std::thread::available_parallelism().map_or(1, |n| n.get()) {
             scope.spawn(|| loop {
-                let point = next.fetch_add(1, Ordering::Relaxed);
-                if point >= POINTS {
+                let number = next.fetch_add(1, Ordering::Relaxed);
+                if number >= asked.len() {
                     return;
                 }
-                let seen = measure(point, words);
-                all.lock().unwrap()[point] = Some(seen);
+                let seen = measure(asked[number]);
+                all.lock().unwrap()[number] = Some(seen);
             });
         }
     });

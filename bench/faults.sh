@@ -1,5 +1,5 @@
 #!/bin/sh
-# Runs the program where reads and writes fail, fall short or are not ready, and counts the runs that do not go as README says:
+# Runs the program where reads and writes fail, fall short or are not ready, and counts the runs that do not go as man/malligovu.1 says:
 #     bench/faults.sh [PROGRAM]    the built program, or another one by its path
 # Needs rt, gcc and rustc. What it builds goes to a temporary folder.
 set -e

@@ -1,7 +1,7 @@
 #!/bin/sh
-# Installs into a temporary folder and tries what is there as a user would: host.c from another folder by pkg-config alone, in C and in C++,
-# shared and static, and host.py; the program on its example, with an argument, and split over all cores; the manual; what install.sh says
-# where it can't; and that nothing is left when it is uninstalled.
+# Installs into a temporary folder and tries what is there as a user would, with the variables that install.sh prints: host.c from another
+# folder by pkg-config alone, in C and in C++, shared and static, and host.py; the program on its example, with an argument, and split over
+# all cores; the manual; the folder moved; what install.sh says where it can't; and that nothing is left when it is uninstalled.
 #     bench/installed.sh
 # Needs rt, cc, c++, pkg-config and python3. What needs mandoc, GNU parallel or another user is left out where that is missing, and said.
 cd "$(dirname "$0")/.." || exit 1
@@ -34,13 +34,14 @@ refused "no prefix" "usage" "$build/none" ./install.sh
 refused "two" "usage" "$build/none" ./install.sh "$build/none" "$build/more"
 refused "an option" "usage" "$build/none" ./install.sh --help
 touch "$build/file"
-refused "under a file" "can't be written" "$build/file/here" ./install.sh "$build/file/here"
-refused "in /proc" "can't be made" /proc/malligovu ./install.sh /proc/malligovu
+refused "under a file" "is no folder" "$build/file/here" ./install.sh "$build/file/here"
+refused "in /proc" "can't be" /proc/malligovu ./install.sh /proc/malligovu
+refused "the source folder" "source folder itself" "$root/bin" ./install.sh .
 mkdir "$build/tools" && for tool in sh dirname mktemp cc; do ln -s "$(command -v $tool)" "$build/tools/"; done
 refused "no rt" "rt, the command" "$build/none" env PATH="$build/tools" ./install.sh "$build/none"
-if [ "$(id -u)" -eq 0 ] && command -v setpriv >/dev/null; then
+if [ "$(id -u)" -eq 0 ] && setpriv --reuid=65534 --clear-groups test -x . 2>/dev/null; then
     mkdir "$build/closed"
-    refused "a folder of another user's" "can't be written" "$build/closed/bin" \
+    refused "a folder of another user's" "closed/ can't be written" "$build/closed/bin" \
         setpriv --reuid=65534 --clear-groups env PATH="$PATH" ./install.sh "$build/closed"
 else
     echo "left out: a folder of another user's"
@@ -51,12 +52,14 @@ refused "a folder in a file's place" "is a folder" "$build/half/bin" ./install.s
 report "nothing is left of it" $?
 
 echo "== install.sh"
-./install.sh "$build/first" >"$build/said" || { report "install" 1; exit 1; }
-mv "$build/first" "$build/prefix" && prefix=$build/prefix
+prefix=$build/first
+./install.sh "$prefix" >"$build/said" || { report "install" 1; exit 1; }
 (cd "$prefix" && find . -type f | sort)
+./install.sh "$prefix" >"$build/said"
+report "again, over itself" $?
 
 echo "== a host, from another folder, by pkg-config alone"
-export PKG_CONFIG_PATH="$prefix/lib/pkgconfig" LD_LIBRARY_PATH="$prefix/lib"
+eval "$(sed -n 's/^to use it there: //p' "$build/said")"
 mkdir "$build/elsewhere" && cp examples/host.c examples/host.py "$build/elsewhere/" && cd "$build/elsewhere" || exit 1
 cp host.c host.cc
 try "C, shared" cc -Wall -Wextra -o shared host.c $(pkg-config --cflags --libs malligovu)
@@ -74,14 +77,14 @@ python3 host.py >got && cmp -s want got
 report "host.py prints the same" $?
 
 echo "== the program"
-program=$prefix/bin/malligovu cases=$root/crates/malligovu
-"$program" <"$cases/stdin" >got && cmp -s "$cases/stdout" got
+cases=$root/crates/malligovu
+malligovu <"$cases/stdin" >got && cmp -s "$cases/stdout" got
 report "its stored input" $?
-"$program" --help <"$cases/stdin" >got 2>said && [ ! -s got ] && grep -q usage said
+malligovu --help <"$cases/stdin" >got 2>said && [ ! -s got ] && grep -q usage said
 report "with an argument: $(head -n 1 said)" $?
 if command -v parallel >/dev/null; then
     { head -n 1 "$cases/stdin"; for _ in $(seq 200); do tail -n +2 "$cases/stdin"; echo; done; } >input
-    "$program" <input >want && parallel --pipe --header : -k "$program" <input >got 2>said && cmp -s want got
+    malligovu <input >answers && parallel --pipe --header : -k malligovu <input >got 2>said && cmp -s answers got
     report "GNU parallel over $(nproc) cores, $(wc -c <input) bytes: as one run" $?
 else
     echo "left out: GNU parallel"
@@ -95,8 +98,11 @@ else
     echo "left out: mandoc"
 fi
 
-echo "== uninstall"
-cd "$build" && mv "$prefix" "$build/first" && sh -c "$(sed -n 's/^to uninstall: //p' "$build/said")" && [ -z "$(find "$build/first" -type f)" ]
+echo "== moved, and uninstalled"
+mv "$prefix" "$build/moved" && PKG_CONFIG_PATH=$build/moved/lib/pkgconfig LD_LIBRARY_PATH=$build/moved/lib
+cc -o moved host.c $(pkg-config --cflags --libs malligovu) && ./moved >got && cmp -s want got
+report "a host finds it where it is moved" $?
+cd "$build" && mv "$build/moved" "$prefix" && sh -c "$(sed -n 's/^to uninstall: //p' "$build/said")" && [ -z "$(find "$prefix" -type f)" ]
 report "no file is left" $?
 echo "$tried tried, $bad wrong"
 [ $bad -eq 0 ]

@@ -1,5 +1,8 @@
-//! The three calls of include/malligovu.h. An empty slice is passed as a null pointer with length 0, which the header allows.
+//! The nine codes, and the three calls of include/malligovu.h. An empty slice is passed as a null pointer with length 0, which the header allows.
 #![allow(dead_code)] // each program calls those that it needs
+
+/// m, t and k of the nine codes.
+pub const CODES: [(u32, u32, u32); 9] = [(4, 1, 11), (4, 2, 7), (4, 3, 5), (5, 1, 26), (5, 2, 21), (5, 3, 16), (6, 1, 57), (6, 2, 51), (6, 3, 45)];
 
 extern "C" {
     fn malligovu_encode(m: u32, t: u32, s: u32, message: u64, word: *mut u8, word_length: usize) -> u32;

@@ -1,11 +1,11 @@
 //! Prints the tables of docs/ORDERS.md, in a thousand words sent: what each order refuses and hands on wrong, and what a host gets that
 //! asks something more of a word before it takes it.
-use crate::errors::{decibels, Asked, Order, Point, ORDERS};
+use crate::errors::{Asked, Order, Point, ORDERS};
 
-const HOSTS: [(usize, usize); 6] = [(6, 1), (6, 2), (6, 3), (8, 1), (8, 2), (8, 3)]; // points, at 3 and 4 dB, and orders
-const ASKED: [Asked; 11] = [
+const HOSTS: [(f64, usize); 6] = [(3.0, 1), (3.0, 2), (3.0, 3), (4.0, 1), (4.0, 2), (4.0, 3)]; // decibels and orders
+const ASKED: [Asked; 14] = [
     Asked::Flips(6), Asked::Flips(5), Asked::Flips(4), Asked::Flips(3), Asked::Distance(144), Asked::Distance(120), Asked::Distance(96),
-    Asked::Distance(72), Asked::Distance(48), Asked::Distance(32), Asked::Nearest,
+    Asked::Distance(72), Asked::Distance(64), Asked::Distance(56), Asked::Distance(48), Asked::Distance(40), Asked::Distance(32), Asked::Nearest,
 ];
 
 pub fn thousands(number: u32) -> String {
@@ -28,13 +28,14 @@ fn head(first: &str, cells: impl Iterator<Item = String> + Clone) {
     println!("|---|{}", "---|".repeat(cells.count()));
 }
 
-fn losses(all: &[Point]) {
+// a row for each point, named so
+fn losses<'a>(first: &str, points: impl Iterator<Item = &'a Point>, name: impl Fn(&Point) -> String) {
     let orders = (0..ORDERS).flat_map(|order| [format!("order {order} refused"), "wrong".into()]);
-    head("dB", ["more than 3 bits wrong".into()].into_iter().chain(orders));
-    for (point, seen) in all.iter().enumerate() {
+    head(first, ["more than t bits wrong".into()].into_iter().chain(orders));
+    for seen in points {
         let both = |one: &Order| [one.refused, one.wrong.with(Asked::Nothing)];
         let counts = [seen.too_many].into_iter().chain(seen.orders.iter().flat_map(both));
-        row(&decibels(point).to_string(), counts.map(|count| in_thousand(count, seen.words)));
+        row(&name(seen), counts.map(|count| in_thousand(count, seen.of.words)));
     }
 }
 
@@ -47,22 +48,28 @@ fn said(asked: Asked) -> String {
     }
 }
 
-fn pairs(all: &[Point], asked: Asked, pair: impl Fn(&Order) -> [u32; 2]) {
-    let one = |&(point, order): &(usize, usize)| pair(&all[point].orders[order]).map(|count| in_thousand(count, all[point].words));
-    row(&said(asked), HOSTS.iter().map(|host| one(host).join(", ")));
+fn pairs(curve: &[Point], asked: Asked, pair: impl Fn(&Order) -> [u32; 2]) {
+    let one = |&(decibels, order): &(f64, usize)| {
+        let seen = curve.iter().find(|seen| seen.of.decibels == decibels).expect("a point of the curve");
+        pair(&seen.orders[order]).map(|count| in_thousand(count, seen.of.words)).join(", ")
+    };
+    row(&said(asked), HOSTS.iter().map(one));
 }
 
-fn hosts(all: &[Point]) {
-    head("asked of a word", HOSTS.iter().map(|&(point, order)| format!("{} dB order {order}", decibels(point))));
-    pairs(all, Asked::Nothing, |one| [&one.wrong, &one.right].map(|handed| handed.with(Asked::Nothing)));
+fn hosts(curve: &[Point]) {
+    head("asked of a word", HOSTS.iter().map(|(decibels, order)| format!("{decibels} dB order {order}")));
+    pairs(curve, Asked::Nothing, |one| [&one.wrong, &one.right].map(|handed| handed.with(Asked::Nothing)));
     for asked in ASKED {
-        pairs(all, asked, |one| [one.wrong.with(asked), one.right.with(Asked::Nothing) - one.right.with(asked)]);
+        pairs(curve, asked, |one| [one.wrong.with(asked), one.right.with(Asked::Nothing) - one.right.with(asked)]);
     }
 }
 
-pub fn print(all: &[Point]) {
-    println!("(63,45), {} words a point: refused and wrong in a thousand words sent\n", thousands(all[0].words));
-    losses(all);
+/// The points of one code, by rising Eb/N0, and those of the others.
+pub fn print(curve: &[Point], others: &[Point]) {
+    println!("(63,45), {} words a point: refused and wrong in a thousand words sent\n", thousands(curve[0].of.words));
+    losses("dB", curve.iter(), |seen| seen.of.decibels.to_string());
     println!("\nwrong words taken and right words given up, in a thousand sent, by what a host asks of a word that it is handed\n");
-    hosts(all);
+    hosts(curve);
+    println!("\nthe other codes, {} words a point: refused and wrong in a thousand words sent\n", thousands(others[0].of.words));
+    losses("code, dB", others.iter(), |seen| format!("({},{}), {}", seen.of.code.n(), seen.of.code.k, seen.of.decibels));
 }

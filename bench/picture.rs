@@ -4,9 +4,11 @@ mod channel;
 mod errors;
 mod library;
 mod orders;
-use errors::{decibels, Asked, Point, ORDERS};
+use errors::{Asked, Asking, Code, Point, ORDERS};
+use library::CODES;
 use std::fmt::Write;
 
+const DRAWN: Code = Code { m: 6, t: 3, k: 45 };
 const SHOWN: u32 = 10; // words of a point that is drawn
 const COLOURS: [&str; ORDERS + 1] = ["#c2410c", "#a16207", "#0f766e", "#1d4ed8", "#6b7280"];
 const HARD: usize = ORDERS; // the look of the curve that is no order's
@@ -23,8 +25,8 @@ struct Curve {
 
 impl Curve {
     fn new(all: &[Point], look: usize, count: impl Fn(&Point) -> u32) -> Curve {
-        let shown = all.iter().enumerate().filter(|(_, seen)| count(seen) >= SHOWN);
-        Curve { look, points: shown.map(|(p, seen)| (decibels(p), f64::from(count(seen)) / f64::from(seen.words))).collect() }
+        let shown = all.iter().filter(|seen| count(seen) >= SHOWN);
+        Curve { look, points: shown.map(|seen| (seen.of.decibels, f64::from(count(seen)) / f64::from(seen.of.words))).collect() }
     }
 
     fn name(&self) -> Vec<String> {
@@ -132,7 +134,7 @@ fn panels(all: &[Point]) -> [Panel; 2] {
 }
 
 fn drawn(all: &[Point]) -> String {
-    let words = orders::thousands(all[0].words);
+    let words = orders::thousands(all[0].of.words);
     let mut out = format!(
         "<svg xmlns='http://www.w3.org/2000/svg' viewBox='0 0 900 556' font-family='system-ui, Helvetica, Arial, sans-serif'\n\
          font-size='14' fill='#1f2937'>\n\
@@ -140,7 +142,7 @@ fn drawn(all: &[Point]) -> String {
          <rect width='900' height='556' fill='#ffffff'/>\n\
          <text x='66' y='28' font-size='18' font-weight='600'>Words of (63,45) in noise, orders 0 to 3</text>\n\
          <text x='66' y='50' fill='#4b5563'>{words} words a point, the same for all orders; \
-         bits sent as +1 and \u{2212}1 in white noise, received as signed bytes</text>\n"
+         bits sent as +1 and \u{2212}1 in white Gaussian noise, received as signed bytes</text>\n"
     );
     out += &panels(all).iter().map(Panel::drawn).collect::<String>();
     let _ = writeln!(
@@ -155,9 +157,19 @@ fn drawn(all: &[Point]) -> String {
     out + "</svg>\n"
 }
 
+// the code of the picture at 0 to 6 dB in halves, and then the others at three points, with a tenth of the words
+fn asked(words: u32) -> Vec<Asking> {
+    let code = |(m, t, k): (u32, u32, u32)| Code { m, t, k };
+    let curve = (0..13u32).map(|point| Asking { code: DRAWN, decibels: f64::from(point) / 2.0, words, seed: u64::from(point) + 1 });
+    let others = CODES.map(code).into_iter().filter(|&other| other != DRAWN).flat_map(|code| [3.0, 5.0, 7.0].map(|decibels| (code, decibels)));
+    let others = others.enumerate().map(|(i, (code, decibels))| Asking { code, decibels, words: words / 10, seed: 100 + i as u64 });
+    curve.chain(others).collect()
+}
+
 fn main() {
     let arguments: Vec<String> = std::env::args().collect();
-    let all = errors::measure_all(arguments[1].parse().expect("the number of words"));
-    orders::print(&all);
-    std::fs::write(&arguments[2], drawn(&all)).expect("the picture's file");
+    let all = errors::measure_all(&asked(arguments[1].parse().expect("the number of words")));
+    let (curve, others) = all.split_at(all.iter().filter(|seen| seen.of.code == DRAWN).count());
+    orders::print(curve, others);
+    std::fs::write(&arguments[2], drawn(curve)).expect("the picture's file");
 }

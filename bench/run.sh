@@ -2,8 +2,8 @@
 # Holds the calls that C hosts link against another implementation, and measures them:
 #     bench/run.sh                   compare, run the example, print instructions and time beside plain C, entered patterns and stack
 #     bench/run.sh picture [WORDS]   draw docs/word-error-rate.svg and print the tables of docs/ORDERS.md, with this many words a point (1000000)
-# Needs rt, gcc and rustc, and valgrind for the instructions and the entered patterns. What it builds goes to a temporary folder. It fails
-# where an answer differs.
+# Needs rt, gcc with binutils, and rustc; valgrind for the instructions and the entered patterns, and GNU time for the program's memory: these are
+# left out where they are missing. What it builds goes to a temporary folder. It fails where an answer differs.
 set -e
 cd "$(dirname "$0")/.."
 library=target/staticlib/libexport.a
@@ -33,12 +33,12 @@ echo "== the calls and bench/reference.rs"
 echo "== examples/host.c"
 "$build/host"
 
-echo "== the calls and plain C (bench/plain.c) at 4 dB: instructions (callgrind: the same from run to run) on 64 words a code, plain C branching"
-echo "   on bits; time on fresh words, plain C with arithmetic in place of these branches"
+echo "== the calls and plain C (bench/plain.c, the better of its two versions) at 4 dB: instructions (callgrind: the same from run to run) on 64"
+echo "   words a code, time on fresh words"
 failed=0
 if command -v valgrind >/dev/null; then
-    env -i "$(command -v valgrind)" --tool=callgrind --toggle-collect='malligovu_*' --toggle-collect=plain_decode --dump-before=mark_begin \
-        --dump-after=mark_end --callgrind-out-file="$build/counts" "$build/cost" count >"$build/log" 2>&1 || { cat "$build/log"; exit 1; }
+    env -i "$(command -v valgrind)" --tool=callgrind --toggle-collect='malligovu_*' --toggle-collect=plain_decode --toggle-collect=straight_decode \
+        --dump-before=mark_begin --dump-after=mark_end --callgrind-out-file="$build/counts" "$build/cost" count >"$build/log" 2>&1 || { cat "$build/log"; exit 1; }
     "$build/cost" "$build/counts" || failed=1
 else
     echo "valgrind is not here: time alone"
@@ -55,9 +55,11 @@ counted() {
 if command -v valgrind >/dev/null; then
     whole=$(counted target/bin/malligovu <"$build/lines")
     calls=$(counted --toggle-collect=malligovu_decode "$build/program" decodes)
-    echo "instructions a word: program $((whole / 10000)), its decode calls $((calls / 10000)), $((whole * 100 / calls)) in 100"
+    echo "instructions a word: program $((whole / 10000)), its decode calls $((calls / 10000)), $(((whole * 100 + calls / 2) / calls)) in 100"
 fi
-/usr/bin/env time -f "%e seconds, %M KB at most" target/bin/malligovu <"$build/lines" >/dev/null
+if [ -x /usr/bin/time ]; then
+    /usr/bin/time -f "%e seconds, %M KB at most" target/bin/malligovu <"$build/lines" >/dev/null
+fi
 
 echo "== stack, and what is linked"
 LD_BIND_NOW=1 "$build/stack"

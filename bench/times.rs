@@ -1,5 +1,5 @@
-//! The time of two calls on the same words. They take turns, a round of some words each, and who begins changes from round to round, so that
-//! both find the machine in the same state.
+//! The time of calls on the same words. They take turns, a round of some words each, and who begins changes from round to round, so that all
+//! find the machine in the same state.
 use crate::cells::{Call, Word};
 use crate::plain::Answer;
 use std::time::Instant;
@@ -7,21 +7,23 @@ use std::time::Instant;
 const ROUND: usize = 32; // words
 
 pub struct Clock {
-    calls: [Call; 2],
-    rounds: Vec<[f64; 2]>, // microseconds a word
+    calls: Vec<Call>,
+    rounds: Vec<Vec<f64>>, // of each round the microseconds a word, call by call
 }
 
 impl Clock {
-    pub fn new(calls: [Call; 2]) -> Clock {
-        Clock { calls, rounds: Vec::new() }
+    pub fn new(calls: &[Call]) -> Clock {
+        Clock { calls: calls.to_vec(), rounds: Vec::new() }
     }
 
-    /// Gives each word once to each call, and gives back the answers of both.
-    pub fn take(&mut self, words: &[Word]) -> [Vec<Answer>; 2] {
-        let mut answers = [vec![Answer::default(); words.len()], vec![Answer::default(); words.len()]];
+    /// Gives each word once to each call, and gives back the answers of each.
+    pub fn take(&mut self, words: &[Word]) -> Vec<Vec<Answer>> {
+        let count = self.calls.len();
+        let mut answers = vec![vec![Answer::default(); words.len()]; count];
         for (number, words) in words.chunks(ROUND).enumerate() {
-            let (begin, mut times) = (number * ROUND, [0.0; 2]);
-            for call in [number % 2, 1 - number % 2] {
+            let (begin, mut times) = (number * ROUND, vec![0.0; count]);
+            for turn in 0..count {
+                let call = (self.rounds.len() + turn) % count;
                 times[call] = round(self.calls[call], words, &mut answers[call][begin..begin + words.len()]);
             }
             self.rounds.push(times);
@@ -29,14 +31,14 @@ impl Clock {
         answers
     }
 
-    /// Microseconds a word of each call, the median over the rounds.
-    pub fn medians(&self) -> [f64; 2] {
-        [0, 1].map(|call| median(self.rounds.iter().map(|times| times[call]).collect()))
+    /// Microseconds a word of a call, the median over the rounds.
+    pub fn median(&self, call: usize) -> f64 {
+        median(self.rounds.iter().map(|times| times[call]).collect())
     }
 
-    /// The second call's time over the first's, the median over the rounds.
-    pub fn ratio(&self) -> f64 {
-        median(self.rounds.iter().map(|times| times[1] / times[0]).collect())
+    /// One call's time over another's, the median over the rounds.
+    pub fn ratio(&self, call: usize, other: usize) -> f64 {
+        median(self.rounds.iter().map(|times| times[call] / times[other]).collect())
     }
 }
 

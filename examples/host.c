@@ -2,7 +2,7 @@
 
        cc host.c $(pkg-config --cflags --libs malligovu) -o host && ./host
 
-   (install.sh puts the library where pkg-config finds it; bench/installed.sh tries this, static and shared.) */
+   with the variables set that install.sh prints, where it installs elsewhere than in the system's folders; bench/installed.sh tries it. */
 #include <inttypes.h>
 #include <malligovu.h>
 #include <stdio.h>

@@ -7,6 +7,10 @@
        5   31    4    26  21  16
        6   63    8    57  51  45
 
+   Position j is the coefficient of x^j and, of a word as a number, bit j. A codeword's polynomial is zero at a, a^2, .., a^(2t), with
+   a a root of x^4+x+1, x^5+x^2+1 or x^6+x+1; the generators at t = 1, 2, 3 are in octal 23, 721, 2467 for m = 4, 45, 3551, 107657
+   for m = 5, and 103, 12471, 1701317 for m = 6.
+
    A word is its n bits in W bytes: bit j is bit j mod 8 of byte j div 8. Message bit i, for i below k - s, stands at position
    n - k + i, the parity below it, and zeros above it.
 
@@ -18,7 +22,8 @@
    after it says and is aligned for them; a null pointer goes only with a length of 0. Memory that is written overlaps no other.
 
    For x86-64 Linux. The functions keep nothing from call to call, allocate nothing, and may run in several threads at once. They
-   need memcpy and memset of the C library and nothing else. Encode and read take some 400 instructions and under 200 bytes of stack. */
+   need memcpy and memset of the C library and nothing else. Encode and read take under 200 bytes of stack and, at m = 6 and t = 3,
+   some 400 and 450 instructions. */
 #ifndef MALLIGOVU_H
 #define MALLIGOVU_H
 
@@ -29,7 +34,7 @@
 extern "C" {
 #endif
 
-/* The last change request that is in (CHANGES.md has them); 0 before the first. Figures are only ever added after those that are there. */
+/* The last change request that is in (CHANGES.md in the source has them); 0 before the first. Figures are only ever added at the end. */
 #define MALLIGOVU_VERSION 0
 
 /* The most of any code: the bytes of a word, W, and the soft values of a received word, n - s. */
@@ -63,7 +68,7 @@ enum malligovu_figure {
 uint32_t malligovu_encode(uint32_t m, uint32_t t, uint32_t s, uint64_t message, uint8_t *word, size_t word_length);
 
 /* Reads the message of the word in the first W bytes of `word`; corrects nothing. Where s > 0 it may refuse, with 8, a word that
-   decode wrote: one that has a one at an unsent position.
+   decode wrote: one that has a one at an unsent position, and so was not sent.
    Checks: 1, 2, 5, 8.
    Writes: the message into message[0]; nothing where `message_length` is 0. */
 uint32_t malligovu_read(uint32_t m, uint32_t t, uint32_t s, const uint8_t *word, size_t word_length, uint64_t *message,
@@ -74,10 +79,11 @@ uint32_t malligovu_read(uint32_t m, uint32_t t, uint32_t s, const uint8_t *word,
    (among equals the lower is taken), it takes the one of least soft distance, the lowest as a number where several tie. The soft
    distance is the sum of the reliabilities where they differ. An unsent position counts as the value 127, and a word with a one
    there is written as it is.
-   A higher order refuses less and, up to order 2, writes more words that were not sent; order 0 loses more words than hard decisions
-   do. A host to which a wrong word is worse than none goes by the distance, which tells more, and the flips (docs/ORDERS.md).
-   Stack: under 3,500 bytes. Instructions a word in noise at 4 dB, on average, at orders 0, 1, 2, 3: 5,900, 6,400, 7,600, 44,500 for
-   n = 63, t = 3; 2,700, 3,000, 7,500, 30,300 for n = 15, t = 1; the dearest is n = 63, t = 1, with 654,900 at order 3.
+   With n = 63 and t = 3 a higher order refuses less, order 2 writes more words that were not sent than order 1, and order 0 loses more
+   than hard decisions do; with t = 1 nothing is refused from order 1 on. A host to which a wrong word is worse than none takes only
+   words of a small distance or, less surely, of few flips: docs/ORDERS.md in the source has the rates.
+   Stack: under 3,500 bytes. Instructions, on average in noise at 4 dB, at orders 0, 1, 2, 3: 5,900, 6,400, 7,600, 44,500 for n = 63,
+   t = 3, and 2,650, 2,950, 7,500, 30,300 for n = 15, t = 1; the most at n = 63, t = 1, 654,900 at order 3.
    Checks: 1, 2, 3, 4, 5, 6.
    Writes: the word into the first W bytes of `word`; and into `figures`, as many as there is room for, the figures above. */
 uint32_t malligovu_decode(uint32_t m, uint32_t t, uint32_t s, uint32_t order, const int8_t *soft, size_t soft_length,

@@ -6,7 +6,7 @@ use Rattle.codes.specs.Code.{entryOf, dimensionOf}
 use Rattle.words.specs.Packing.{bytesOf}
 use Rattle.frame.specs.Refusal.{encodeRefusal, readRefusal, decodeRefusal}
 
--- "Message 2047 with m=4, t=1 gives ff 7f; 2048 is refused with 7; with s=1, 1024 is refused with 7 and 1023 is not."
+-- "Message 2047 with m=4, t=1 gives ff 7f (P4); 2048 is refused with 7; with s=1, 1024 is refused with 7 and 1023 is not."
 messages :
     encodeRefusal 4 1 0 2047 2 ∷ encodeRefusal 4 1 0 2048 2 ∷ encodeRefusal 4 1 1 1024 2 ∷ encodeRefusal 4 1 1 1023 2 ∷ []
     ≡ 0 ∷ 7 ∷ 7 ∷ 0 ∷ []

@@ -29,7 +29,7 @@ abbrev pub pick : Bool → Best → Best → Best
 pick true x y = x
 pick false x y = y
 
--- the best so far stays: it is nearer, or, "among candidates of equal distance, the one with the lowest number"
+-- the best so far stays: it is nearer, or "among candidates of equal distance the one with the lowest number"
 unfoldable pub stays : Best → Weighed → Bool
 stays x c = x .found && (ltb (x .distance) (c .distance) || (eqb (x .distance) (c .distance) && ltb (x .word) (c .word)))
 
