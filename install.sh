@@ -102,8 +102,12 @@ for file in $files; do
 done
 trap '' HUP INT TERM
 for file in $files; do
-    mv -f "$prefix/$file.new" "$prefix/$file" || fail "$prefix/$file can't be replaced, though it was to be; run it again"
+    mv -f "$prefix/$file.new" "$prefix/$file" || fail "$prefix/$file can't be replaced: some of the files are new and some old; run it again"
 done
 echo "installed under $prefix"
-[ "$prefix" = /usr ] || echo "to use it there: export PATH='$prefix/bin':\$PATH PKG_CONFIG_PATH='$prefix/lib/pkgconfig' LD_LIBRARY_PATH='$prefix/lib'"
+# a variable with a folder of PREFIX before what it has
+before() { # FOLDER VARIABLE
+    printf '%s' " $2='$prefix/$1'\"\${$2:+:\$$2}\""
+}
+[ "$prefix" = /usr ] || echo "to use it there: export$(before bin PATH)$(before lib/pkgconfig PKG_CONFIG_PATH)$(before lib LD_LIBRARY_PATH)"
 echo "to uninstall: cd '$prefix/' && rm" $files

@@ -20,7 +20,7 @@ impl Random {
     }
 
     pub fn below(&mut self, n: u64) -> u64 {
-        (self.bits() >> 11) % n
+        if n > 1 << 53 { self.bits() % n } else { (self.bits() >> 11) % n }
     }
 
     pub fn one_in(&mut self, n: u64) -> bool {

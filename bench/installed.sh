@@ -1,7 +1,7 @@
 #!/bin/sh
 # Installs into a temporary folder and tries what is there as a user would, with the variables that install.sh prints: host.c from another
 # folder by pkg-config alone, in C and in C++, shared and static, and host.py; the program on its example, with an argument, and split over
-# all cores; the manual; the folder moved; what install.sh says where it can't; and that nothing is left when it is uninstalled.
+# all cores; the manual; the folder moved; what install.sh says where it can't; and that no file is left when it is uninstalled.
 #     bench/installed.sh
 # Needs rt, cc, c++, pkg-config and python3. What needs mandoc, GNU parallel or another user is left out where that is missing, and said.
 cd "$(dirname "$0")/.." || exit 1
@@ -26,7 +26,8 @@ refused() { # WHAT WORDS FOLDER COMMAND..
     what=$1 words=$2 folder=$3
     shift 3
     ! "$@" 2>"$build/out" >/dev/null && [ "$(wc -l <"$build/out")" -eq 1 ] && grep -q "$words" "$build/out" && [ ! -e "$folder" ]
-    report "$what: $(cat "$build/out")" $?
+    status=$?
+    report "$what: $(cat "$build/out")" $status
 }
 
 echo "== install.sh where it can't"
@@ -81,11 +82,13 @@ cases=$root/crates/malligovu
 malligovu <"$cases/stdin" >got && cmp -s "$cases/stdout" got
 report "its stored input" $?
 malligovu --help <"$cases/stdin" >got 2>said && [ ! -s got ] && grep -q usage said
-report "with an argument: $(head -n 1 said)" $?
+status=$?
+report "with an argument: $(head -n 1 said)" $status
 if command -v parallel >/dev/null; then
     { head -n 1 "$cases/stdin"; for _ in $(seq 200); do tail -n +2 "$cases/stdin"; echo; done; } >input
     malligovu <input >answers && parallel --pipe --header : -k malligovu <input >got 2>said && cmp -s answers got
-    report "GNU parallel over $(nproc) cores, $(wc -c <input) bytes: as one run" $?
+    status=$?
+    report "GNU parallel over $(nproc) cores, $(wc -c <input) bytes: as one run" $status
 else
     echo "left out: GNU parallel"
 fi

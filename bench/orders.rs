@@ -2,11 +2,11 @@
 //! asks something more of a word before it takes it.
 use crate::errors::{Asked, Order, Point, ORDERS};
 
-const HOSTS: [(f64, usize); 6] = [(3.0, 1), (3.0, 2), (3.0, 3), (4.0, 1), (4.0, 2), (4.0, 3)]; // decibels and orders
 const ASKED: [Asked; 14] = [
     Asked::Flips(6), Asked::Flips(5), Asked::Flips(4), Asked::Flips(3), Asked::Distance(144), Asked::Distance(120), Asked::Distance(96),
     Asked::Distance(72), Asked::Distance(64), Asked::Distance(56), Asked::Distance(48), Asked::Distance(40), Asked::Distance(32), Asked::Nearest,
 ];
+const ASKED_OF_OTHERS: [Asked; 5] = [Asked::Distance(96), Asked::Distance(48), Asked::Distance(24), Asked::Distance(0), Asked::Nearest];
 
 pub fn thousands(number: u32) -> String {
     if number < 1000 { number.to_string() } else { format!("{},{:03}", thousands(number / 1000), number % 1000) }
@@ -48,20 +48,41 @@ fn said(asked: Asked) -> String {
     }
 }
 
-fn pairs(curve: &[Point], asked: Asked, pair: impl Fn(&Order) -> [u32; 2]) {
-    let one = |&(decibels, order): &(f64, usize)| {
-        let seen = curve.iter().find(|seen| seen.of.decibels == decibels).expect("a point of the curve");
-        pair(&seen.orders[order]).map(|count| in_thousand(count, seen.of.words)).join(", ")
-    };
-    row(&said(asked), HOSTS.iter().map(one));
+// an order at a point, under its name
+struct Column<'a> {
+    name: String,
+    words: u32,
+    order: &'a Order,
 }
 
-fn hosts(curve: &[Point]) {
-    head("asked of a word", HOSTS.iter().map(|(decibels, order)| format!("{decibels} dB order {order}")));
-    pairs(curve, Asked::Nothing, |one| [&one.wrong, &one.right].map(|handed| handed.with(Asked::Nothing)));
-    for asked in ASKED {
-        pairs(curve, asked, |one| [one.wrong.with(asked), one.right.with(Asked::Nothing) - one.right.with(asked)]);
+fn pairs(columns: &[Column], asked: Asked, pair: impl Fn(&Order) -> [u32; 2]) {
+    let one = |column: &Column| pair(column.order).map(|count| in_thousand(count, column.words)).join(", ");
+    row(&said(asked), columns.iter().map(one));
+}
+
+fn hosts(columns: &[Column], asked: &[Asked]) {
+    head("asked of a word", columns.iter().map(|column| column.name.clone()));
+    pairs(columns, Asked::Nothing, |one| [&one.wrong, &one.right].map(|handed| handed.with(Asked::Nothing)));
+    for &asked in asked {
+        pairs(columns, asked, |one| [one.wrong.with(asked), one.right.with(Asked::Nothing) - one.right.with(asked)]);
     }
+}
+
+fn at(points: &[Point], decibels: f64) -> impl Iterator<Item = &Point> {
+    points.iter().filter(move |seen| seen.of.decibels == decibels)
+}
+
+fn hosts_of_curve(curve: &[Point]) {
+    let column = |seen: &Point, order: usize| format!("{} dB order {order}", seen.of.decibels);
+    let points = at(curve, 3.0).chain(at(curve, 4.0)).flat_map(|seen| (1..ORDERS).map(move |order| (seen, order)));
+    let columns = points.map(|(seen, order)| Column { name: column(seen, order), words: seen.of.words, order: &seen.orders[order] });
+    hosts(&columns.collect::<Vec<_>>(), &ASKED);
+}
+
+fn hosts_of_others(others: &[Point]) {
+    let column = |seen: &Point| format!("({},{})", seen.of.code.n(), seen.of.code.k);
+    let columns = at(others, 3.0).map(|seen| Column { name: column(seen), words: seen.of.words, order: &seen.orders[2] });
+    hosts(&columns.collect::<Vec<_>>(), &ASKED_OF_OTHERS);
 }
 
 /// The points of one code, by rising Eb/N0, and those of the others.
@@ -69,7 +90,9 @@ pub fn print(curve: &[Point], others: &[Point]) {
     println!("(63,45), {} words a point: refused and wrong in a thousand words sent\n", thousands(curve[0].of.words));
     losses("dB", curve.iter(), |seen| seen.of.decibels.to_string());
     println!("\nwrong words taken and right words given up, in a thousand sent, by what a host asks of a word that it is handed\n");
-    hosts(curve);
+    hosts_of_curve(curve);
     println!("\nthe other codes, {} words a point: refused and wrong in a thousand words sent\n", thousands(others[0].of.words));
     losses("code, dB", others.iter(), |seen| format!("({},{}), {}", seen.of.code.n(), seen.of.code.k, seen.of.decibels));
+    println!("\nthe same at 3 dB and order 2, by what a host asks of a word that it is handed\n");
+    hosts_of_others(others);
 }

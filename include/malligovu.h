@@ -12,9 +12,9 @@
    for m = 5, and 103, 12471, 1701317 for m = 6.
 
    A word is its n bits in W bytes: bit j is bit j mod 8 of byte j div 8. Message bit i, for i below k - s, stands at position
-   n - k + i, the parity below it, and zeros above it.
+   n - k + i, the parity below them all, and zeros above.
 
-   Each function returns 0, or the number of the first check that is met, in the order that stands at the function. Where it
+   Each function returns 0, or the number of the first refusal that applies, in the order that stands at the function. Where it
    returns any number but 0, nothing is written anywhere. Where it returns 0, it has written what stands at the function, and
    nothing past that.
 
@@ -22,8 +22,8 @@
    after it says and is aligned for them; a null pointer goes only with a length of 0. Memory that is written overlaps no other.
 
    For x86-64 Linux. The functions keep nothing from call to call, allocate nothing, and may run in several threads at once. They
-   need memcpy and memset of the C library and nothing else. Encode and read take under 200 bytes of stack and, at m = 6 and t = 3,
-   some 400 and 450 instructions. */
+   need memcpy and memset of the C library and nothing else. Encode and read take some 100 and 150 bytes of stack and, at m = 6
+   and t = 3, 400 and 450 instructions. What they take is measured, not proved. */
 #ifndef MALLIGOVU_H
 #define MALLIGOVU_H
 
@@ -63,13 +63,13 @@ enum malligovu_figure {
 };
 
 /* Encodes a message.
-   Checks: 1, 2, 7, 5.
+   Refuses: 1, 2, 7, 5.
    Writes: the word into the first W bytes of `word`. */
 uint32_t malligovu_encode(uint32_t m, uint32_t t, uint32_t s, uint64_t message, uint8_t *word, size_t word_length);
 
 /* Reads the message of the word in the first W bytes of `word`; corrects nothing. Where s > 0 it may refuse, with 8, a word that
    decode wrote: one that has a one at an unsent position, and so was not sent.
-   Checks: 1, 2, 5, 8.
+   Refuses: 1, 2, 5, 8.
    Writes: the message into message[0]; nothing where `message_length` is 0. */
 uint32_t malligovu_read(uint32_t m, uint32_t t, uint32_t s, const uint8_t *word, size_t word_length, uint64_t *message,
                         size_t message_length);
@@ -79,12 +79,13 @@ uint32_t malligovu_read(uint32_t m, uint32_t t, uint32_t s, const uint8_t *word,
    (among equals the lower is taken), it takes the one of least soft distance, the lowest as a number where several tie. The soft
    distance is the sum of the reliabilities where they differ. An unsent position counts as the value 127, and a word with a one
    there is written as it is.
-   With n = 63 and t = 3 a higher order refuses less, order 2 writes more words that were not sent than order 1, and order 0 loses more
-   than hard decisions do; with t = 1 nothing is refused from order 1 on. A host to which a wrong word is worse than none takes only
-   words of a small distance or, less surely, of few flips: docs/ORDERS.md in the source has the rates.
-   Stack: under 3,500 bytes. Instructions, on average in noise at 4 dB, at orders 0, 1, 2, 3: 5,900, 6,400, 7,600, 44,500 for n = 63,
-   t = 3, and 2,650, 2,950, 7,500, 30,300 for n = 15, t = 1; the most at n = 63, t = 1, 654,900 at order 3.
-   Checks: 1, 2, 3, 4, 5, 6.
+   A higher order refuses less (with t = 1 nothing from order 1 on, with t = 2 next to nothing from order 2 on), and some of what it no
+   longer refuses is written wrong; order 0 mostly loses more words than hard decisions do. A host to which a wrong word is worse than
+   none takes only words of a small distance or, less surely, of few flips; with t = 1 that does not shut wrong words out, since three
+   wrong bits may make another codeword, of distance 0. docs/ORDERS.md in the source has the rates.
+   Stack: 3,405 bytes were the most seen. Instructions, on average at an Eb/N0 of 4 dB, at orders 0, 1, 2, 3: 5,900, 6,400, 7,600,
+   44,500 for n = 63, t = 3, and 2,650, 2,950, 7,500, 30,300 for n = 15, t = 1; the most at n = 63, t = 1, order 3: 655,800.
+   Refuses: 1, 2, 3, 4, 5, 6.
    Writes: the word into the first W bytes of `word`; and into `figures`, as many as there is room for, the figures above. */
 uint32_t malligovu_decode(uint32_t m, uint32_t t, uint32_t s, uint32_t order, const int8_t *soft, size_t soft_length,
                           uint8_t *word, size_t word_length, uint32_t *figures, size_t figures_length);
