@@ -34,8 +34,9 @@
 extern "C" {
 #endif
 
-/* The last change request that is in (CHANGES.md in the source has them); 0 before the first. Figures are only ever added at the end. */
-#define MALLIGOVU_VERSION 0
+/* The number of the last change request that is in the library (CHANGES.md in the source has them); it goes up with each, so that a
+   host can test when it is compiled what it has. Figures are only ever added at the end. */
+#define MALLIGOVU_VERSION 1
 
 /* The most of any code: the bytes of a word, W, and the soft values of a received word, n - s. */
 #define MALLIGOVU_MOST_BYTES 8

@@ -1,6 +1,7 @@
 pub mod ContractsMeetDemands
 pub mod DemandsAreContracts
 pub mod SecondGivesThird
+pub mod HardSlicedRead
 pub mod SentWords
 pub mod AtEquality
 pub mod RejectedShown

@@ -40,9 +40,10 @@ use Rattle.stream.proofs.step.Met as step-met
 use Rattle.stream.proofs.end.Statement as end-stated
 use Rattle.stream.proofs.end.Met as end-met
 use Rattle.lines.specs.Claims.{BlocksDoNotMatter, AnsweredAtOnce, NothingAfterTheEnd, NothingIsGuessed, UnfinishedLinesWait}
+use Rattle.lines.specs.Claims.{OrderLeftOut}
 use Rattle.lines.proofs.ClaimsShown as program-shown
 use Rattle.demands.specs.Claims.{ContractsMeetDemands, OursMeetDemands, DemandsAreContracts, NothingElseMeetsThem, SecondGivesThird}
-use Rattle.demands.specs.Claims.{EqualityIsNotPromised}
+use Rattle.demands.specs.Claims.{EqualityIsNotPromised, HardSlicedWordsAreRead}
 use Rattle.demands.specs.Ours.{ours}
 use Rattle.demands.specs.Rejected.{WrongVersionsAreRejected}
 use Rattle.demands.specs.Wrong.{WrongVersionsExist}
@@ -54,6 +55,7 @@ use Rattle.demands.specs.BringsBack.{ReadBringsBack, EncodeWritesAgain}
 use Rattle.demands.proofs.ContractsMeetDemands.{meets-first, meets-second, ours-answer}
 use Rattle.demands.proofs.DemandsAreContracts.{contracts-kept, encode-as-ours, read-as-ours, decode-as-ours}
 use Rattle.demands.proofs.SecondGivesThird as third
+use Rattle.demands.proofs.HardSlicedRead as hard-sliced
 use Rattle.demands.proofs.CompiledCalls as compiled
 use Rattle.demands.proofs.CompiledCalls.{EncodeIsOurs, ReadIsOurs, DecodeIsOurs}
 use Rattle.demands.proofs.AtEquality.{equality-shown}
@@ -80,6 +82,9 @@ nothing-else-meets-them x first second = (encode-as-ours x first second, read-as
 
 pub equality-is-not-promised : EqualityIsNotPromised
 equality-is-not-promised = equality-shown
+
+pub hard-sliced-words-are-read : HardSlicedWordsAreRead
+hard-sliced-words-are-read = hard-sliced.hard-sliced-words-are-read
 
 -- the compiled functions meet their contracts, and so ask nothing and give back what ours give
 pub encode-meets-its-contract : {M : Type 1} → encode-stated.statement M
@@ -238,3 +243,6 @@ nothing-is-guessed = program-shown.nothing-is-guessed
 
 pub unfinished-lines-wait : UnfinishedLinesWait
 unfinished-lines-wait = program-shown.unfinished-lines-wait
+
+pub order-left-out : OrderLeftOut
+order-left-out = program-shown.order-left-out

@@ -7,18 +7,22 @@
 --   NothingElseMeetsThem     so it gives what ours give
 --   SecondGivesThird         demand 3 asks nothing further of a decoder: demand 2 implies it
 --   EqualityIsNotPromised    in demand 3 "less than" cannot be "at most"
+--   HardSlicedWordsAreRead   with an order of t or more a hard-sliced word with at most t wrong bits comes back: why a header of three
+--                            numbers means order t (Req 01)
 -- Assumes nothing.
 use mathlib.Core.Path.{_≡_}
 use mathlib.Core.List.{List}
-use Prim.Native.Nat.{ℕ}
-use Rattle.decode.specs.Call.{Call}
+use Prim.Native.Nat.{ℕ, _≤_}
+use Rattle.decode.specs.Call.{Call, checksOf}
 use Rattle.settled.specs.SettledCalls.{calling, tied}
 use Rattle.demands.specs.Calls.{Calls}
 use Rattle.demands.specs.Contracts.{Contracts}
 use Rattle.demands.specs.Demand1.{Demand1}
+use Rattle.demands.specs.Decodes.{Returns}
 use Rattle.demands.specs.Demand2.{Demand2}
 use Rattle.demands.specs.Demand3.{Demand3, AtEquality}
 use Rattle.demands.specs.Demands.{Demands}
+use Rattle.demands.specs.HardSliced.{HardSliced}
 use Rattle.demands.specs.Ours.{ours}
 
 abbrev pub ContractsMeetDemands : Type 0
@@ -43,3 +47,9 @@ SecondGivesThird = (x : Calls) → Demand2 x → Demand3 x
 -- near and lower, comes back
 abbrev pub EqualityIsNotPromised : Type 0
 EqualityIsNotPromised = AtEquality (calling 1 tied) 0x6004 0
+
+-- Req 01: "With t=2 or 3" order 1 "leaves a hard-sliced word with two wrong bits unread." Demand 3's corollary: of e wrong bits, e at most
+-- t, the sum is e v, and the 2t+1-e smallest at the right bits sum to (2t+1-e) v or more
+abbrev pub HardSlicedWordsAreRead : Type 0
+HardSlicedWordsAreRead = (x : Calls) → Demand2 x → (c : Call) → checksOf c ≡ 0 → c .t ≤ c .order → (v w : ℕ) → HardSliced c v w
+    → Returns c w (x .decode c) × ((u : ℕ) → Returns c u (x .decode c) → u ≡ w)

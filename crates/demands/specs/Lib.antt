@@ -4,6 +4,7 @@ pub mod Demand1
 pub mod Decodes
 pub mod Demand2
 pub mod Demand3
+pub mod HardSliced
 pub mod Demands
 pub mod Ours
 pub mod Claims

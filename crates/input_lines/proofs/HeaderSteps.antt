@@ -1,8 +1,8 @@
 -- Reading the header, as the loop takes it.
---   ReadNumbers   the loop's invariant: the first `count` of the four numbers are those of the items read, the others as they were
+--   ReadNumbers   the loop's invariant: the first `count` of the four numbers are those of the items read
 --   numbers-begin, numbers-more   before the first item, an item more
 --   too-long, numbers-wrong, numbers-many, numbers-few   where the header is wrong
---   numbers-all   three or four numbers are a header
+--   numbers-three, numbers-four   three numbers are a header, and so are four
 -- Assumes nothing.
 use mathlib.Core.Path.{_≡_, refl, sym, ap, subst, _∙_}
 use mathlib.Core.Logic.{⊎-elim}
@@ -24,13 +24,9 @@ use Rattle.input_lines.proofs.ItemsLaws.{itemsFrom, items-next}
 use Rattle.input_lines.proofs.ItemTells.{plain-is, plain-number, number-full}
 use Rattle.input_lines.proofs.ReadSteps.{Reading, item-within, reading-begin, reading-more, reading-wrong, reading-end, reading-all}
 
-abbrev unread : List ℕ
-unread = 0 ∷ 0 ∷ 0 ∷ 1 ∷ []
-
 pub record ReadNumbers (text numbers : List ℕ) (count at : ℕ) : Type 0 where
   pub size : length numbers ≡ 4
   pub fits : count ≤ 4
-  pub rest : drop count numbers ≡ drop count unread
   pub reading : Reading isNumber numberOf text (take count numbers) at
 
 -- a header has three or four numbers
@@ -48,17 +44,18 @@ many (a ∷ b ∷ c ∷ []) x xs h = absurd (omega arith)
 many (a ∷ b ∷ c ∷ d ∷ []) x xs h = refl
 many (a ∷ b ∷ c ∷ d ∷ e ∷ l) x xs h = absurd (omega arith)
 
-enough : (l : List ℕ) (count : ℕ) → length l ≡ 4 → 3 ≤ count → count ≤ 4 → drop count l ≡ drop count unread
-    → headerIn (take count l) ≡ headerWith (getD l 0 0) (getD l 1 0) (getD l 2 0) (getD l 3 0)
-enough [] count h low high e = absurd (omega arith)
-enough (a ∷ []) count h low high e = absurd (omega arith)
-enough (a ∷ b ∷ []) count h low high e = absurd (omega arith)
-enough (a ∷ b ∷ c ∷ []) count h low high e = absurd (omega arith)
-enough (a ∷ b ∷ c ∷ d ∷ []) count h low high e =
-    ⊎-elim (λ (q : count ≡ 4). rw q)
-    (λ (q : count < 4). let z : count ≡ 3 = omega arith in rw z (ap (headerWith a b c) (sym (ap (λ (x : List ℕ). getD x 0 0) (rw z at e)))))
-    (eq-or-lt-of-le high)
-enough (a ∷ b ∷ c ∷ d ∷ f ∷ l) count h low high e = absurd (omega arith)
+three : (l : List ℕ) → length l ≡ 4 → headerIn (take 3 l) ≡ headerWith (getD l 0 0) (getD l 1 0) (getD l 2 0) (getD l 1 0)
+three [] h = absurd (omega arith)
+three (a ∷ []) h = absurd (omega arith)
+three (a ∷ b ∷ []) h = absurd (omega arith)
+three (a ∷ b ∷ c ∷ l) h = refl
+
+four : (l : List ℕ) → length l ≡ 4 → headerIn (take 4 l) ≡ headerWith (getD l 0 0) (getD l 1 0) (getD l 2 0) (getD l 3 0)
+four [] h = absurd (omega arith)
+four (a ∷ []) h = absurd (omega arith)
+four (a ∷ b ∷ []) h = absurd (omega arith)
+four (a ∷ b ∷ c ∷ []) h = absurd (omega arith)
+four (a ∷ b ∷ c ∷ d ∷ l) h = refl
 
 -- the header of a text, by what is known of its items
 not-fit : (text : List ℕ) → (lineFits text && every isNumber (items text)) ≡ false → headerOf text ≡ wrongHeader
@@ -76,8 +73,8 @@ not-header text e = go (lineFits text && every isNumber (items text))
 pub too-long : (text : List ℕ) → 512 < length text → headerOf text ≡ wrongHeader
 too-long text h = not-fit text (rw (lt-leb (length text) 512 h))
 
-pub numbers-begin : (text : List ℕ) → ReadNumbers text unread 0 0
-numbers-begin text = record { size = refl; fits = omega arith; rest = refl; reading = reading-begin isNumber numberOf text }
+pub numbers-begin : (text : List ℕ) → ReadNumbers text (0 ∷ 0 ∷ 0 ∷ 0 ∷ []) 0 0
+numbers-begin text = record { size = refl; fits = omega arith; reading = reading-begin isNumber numberOf text }
 
 module _ (text numbers : List ℕ) (count at : ℕ) (r : ReadNumbers text numbers count at) where
   taken : length (take count numbers) ≡ count
@@ -121,9 +118,6 @@ module _ (text numbers : List ℕ) (count at : ℕ) (r : ReadNumbers text number
     numbers-more t l = record {
       size = length-set numbers count (f .item .number) ∙ r .size;
       fits = omega arith;
-      rest =
-          drop-set-lt (count + 1) numbers count (f .item .number) (omega arith) ∙ sym (drop-drop 1 count numbers) ∙ ap (drop 1) (r .rest)
-          ∙ drop-drop 1 count unread;
       reading =
           let n : T (isNumber item) = subst T is-number t in
           rw (
@@ -142,9 +136,17 @@ module _ (text numbers : List ℕ) (count at : ℕ) (r : ReadNumbers text number
     pub numbers-few : count < 3 → headerOf text ≡ wrongHeader
     numbers-few l = not-header text (ap headerIn (sym read-all) ∙ few (take count numbers) (omega (arith, taken)))
 
-    pub numbers-all : length text ≤ 512 → 3 ≤ count
-        → headerOf text ≡ headerWith (getD numbers 0 0) (getD numbers 1 0) (getD numbers 2 0) (getD numbers 3 0)
-    unfolding headerOf
-    numbers-all q l =
-        rw (le-leb (length text) 512 q, reading-end isNumber numberOf text (take count numbers) at (r .reading) h)
-        (ap headerIn (sym read-all) ∙ enough numbers count (r .size) l (r .fits) (r .rest))
+    module _ (q : length text ≤ 512) where
+      header-read : headerOf text ≡ headerIn (take count numbers)
+      unfolding headerOf
+      header-read =
+          rw (le-leb (length text) 512 q, reading-end isNumber numberOf text (take count numbers) at (r .reading) h)
+          (ap headerIn (sym read-all))
+
+      pub numbers-three : count ≡ 3
+          → headerOf text ≡ headerWith (getD numbers 0 0) (getD numbers 1 0) (getD numbers 2 0) (getD numbers 1 0)
+      numbers-three e = header-read ∙ ap (λ (k : ℕ). headerIn (take k numbers)) e ∙ three numbers (r .size)
+
+      pub numbers-four : count ≡ 4
+          → headerOf text ≡ headerWith (getD numbers 0 0) (getD numbers 1 0) (getD numbers 2 0) (getD numbers 3 0)
+      numbers-four e = header-read ∙ ap (λ (k : ℕ). headerIn (take k numbers)) e ∙ four numbers (r .size)

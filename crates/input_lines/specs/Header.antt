@@ -1,4 +1,4 @@
--- The first line: which header its text is (document 01, "The program"). Everything here computes.
+-- The first line: which header its text is (document 01, "The program"; Req 01). Everything here computes.
 --   wrongHeader     what stands for a wrong header
 --   headerIn ns     the header whose numbers are ns
 --   headerOf text   the header that a text is
@@ -15,9 +15,9 @@ wrongHeader = record { good = false; m = 0; t = 0; s = 0; order = 0 }
 abbrev pub headerWith : ℕ → ℕ → ℕ → ℕ → Header
 headerWith m t s order = record { good = true; m = m; t = t; s = s; order = order }
 
--- "The header is `m t s order`, or `m t s` meaning order 1."
+-- "The header is `m t s order`" (document 01). Req 01: "A header of three numbers now means order t."
 abbrev pub headerIn : List ℕ → Header
-headerIn (m ∷ t ∷ s ∷ []) = headerWith m t s 1
+headerIn (m ∷ t ∷ s ∷ []) = headerWith m t s t
 headerIn (m ∷ t ∷ s ∷ order ∷ []) = headerWith m t s order
 headerIn [] = wrongHeader
 headerIn (m ∷ []) = wrongHeader

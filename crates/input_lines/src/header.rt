@@ -41,8 +41,7 @@ pub fn read_header(text: &[u8]) -> Header
     if 512 < text.len() {
         return wrong();
     }
-    // order is 1 where it is not given
-    let mut numbers = [0u16, 0, 0, 1];
+    let mut numbers = [0u16; 4];
     let mut count = 0;
     let mut at = 0;
     while at <= text.len() {
@@ -61,11 +60,16 @@ pub fn read_header(text: &[u8]) -> Header
     if count < 3 {
         return wrong();
     }
+    let m = numbers[0];
+    let t = numbers[1];
+    let s = numbers[2];
+    // an order that is left out is t
+    let order = if count == 3 { t } else { numbers[3] };
     Header {
         good: true,
-        m: numbers[0],
-        t: numbers[1],
-        s: numbers[2],
-        order: numbers[3],
+        m,
+        t,
+        s,
+        order,
     }
 }

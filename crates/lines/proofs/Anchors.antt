@@ -13,9 +13,9 @@ use Rattle.output_lines.specs.Output.{decimalIn, decimal, hexOf, refusedLine, o
 use Rattle.lines.specs.Answer.{refusalOf}
 use Rattle.lines.specs.Program.{linesOf}
 
--- the example's header, one "meaning order 1", and one with zeros before its numbers
-headers : map headerOf (bytesIn "4 1 0 1" ∷ bytesIn "4 1 0" ∷ bytesIn "04 001 0 3" ∷ [])
-    ≡ headerWith 4 1 0 1 ∷ headerWith 4 1 0 1 ∷ headerWith 4 1 0 3 ∷ []
+-- the example's header, one whose order is left out and so is t, and the same two with zeros before their numbers
+headers : map headerOf (bytesIn "4 1 0 1" ∷ bytesIn "4 2 0" ∷ bytesIn "04 001 0 3" ∷ bytesIn "4 02 000" ∷ [])
+    ≡ headerWith 4 1 0 1 ∷ headerWith 4 2 0 2 ∷ headerWith 4 1 0 3 ∷ headerWith 4 2 0 2 ∷ []
 unfolding headerOf items isNumber numberOf
 headers = refl
 
@@ -30,6 +30,12 @@ header-refusals : map refusalOf (headerWith 260 1 0 1 ∷ headerWith 4 1 11 4 �
     ≡ 1 ∷ 2 ∷ 3 ∷ 0 ∷ []
 unfolding headerRefusal dimensionOf entryOf
 header-refusals = refl
+
+-- an unknown t is refused with 1 and not, as an order, with 3: `4 0 0`, `4 5 0` and `4 257 0`; `4 2 7` with 2
+left-out-refusals : map (λ text. refusalOf (headerOf text)) (bytesIn "4 0 0" ∷ bytesIn "4 5 0" ∷ bytesIn "4 257 0" ∷ bytesIn "4 2 7" ∷ [])
+    ≡ 1 ∷ 1 ∷ 1 ∷ 2 ∷ []
+unfolding headerOf items isNumber numberOf headerRefusal dimensionOf entryOf
+left-out-refusals = refl
 
 -- values, and what is "outside -128 to 127" or no number
 values-read : valuesOf (bytesIn "-128 127 -0 007") ≡ record { good = true; values = negsuc 127 ∷ pos 127 ∷ pos 0 ∷ pos 7 ∷ [] }

@@ -11,11 +11,12 @@ use Rattle.lines.specs.Program.{programOutput}
 use Rattle.lines.specs.Awaited.{wordsOrEnd, phaseAfter, lastSays}
 use Rattle.lines.specs.Memory.{Memory, start, blockSays, afterBlock, endSays, blocksSay}
 use Rattle.lines.specs.Claims.{joined, NoNewline, BlocksDoNotMatter, AnsweredAtOnce, NothingAfterTheEnd}
-use Rattle.lines.specs.Claims.{saidSoFar, NothingIsGuessed, UnfinishedLinesWait}
+use Rattle.lines.specs.Claims.{saidSoFar, NothingIsGuessed, UnfinishedLinesWait, OrderLeftOut}
 use Rattle.lines.specs.declared.phase.Phase.{Phase}
 use Rattle.lines.specs.declared.phase.Phase.the-variants.{First, Words, Ended}
 use Rattle.lines.proofs.StillLaws.{still, still-block, still-end, still-start}
 use Rattle.lines.proofs.BlockLaws.{says-append, says-piece, after-append}
+use Rattle.lines.proofs.OrderLeftOut.{same-alone, same-then}
 
 blocks-still : (m : Memory) (blocks : List (List ℕ)) → blocksSay m blocks ≡ still m (joined blocks)
 unfolding blocksSay
@@ -79,3 +80,6 @@ unfinished-lines-wait blocks piece none = (
   λ e. so-far-joined start blocks ∙ ap (blockSays start) e ∙ says-piece start piece none,
   λ lines e. so-far-joined start blocks ∙ ap (blockSays start) e ∙ piece-waits lines piece none,
 )
+
+pub order-left-out : OrderLeftOut
+order-left-out a b c ha hb hc = (same-alone a b c ha hb hc, same-then a b c ha hb hc)

@@ -4,11 +4,14 @@
 --   NothingAfterTheEnd     once the program has ended it prints nothing, so that it need not read on
 --   NothingIsGuessed       whatever was read so far, what is printed is a beginning of what every input that begins so prints
 --   UnfinishedLinesWait    and it is what the finished lines print: of a line that has not ended nothing is printed
+--   OrderLeftOut           an input whose header leaves the order out is answered as one whose header writes t there
 -- Assumes nothing.
 use mathlib.Core.Path.{_≡_}
 use mathlib.Core.List.{List, [], _∷_, _++_}
 use Prim.Native.Nat.{ℕ, _<_}
 use lib.ListN.{length, getD}
+use lib.Dec.{T}
+use Rattle.items.specs.Line.{isNumber}
 use Rattle.output_lines.specs.Text.{newline}
 use Rattle.lines.specs.Program.{programOutput}
 use Rattle.lines.specs.Memory.{Memory, start, blockSays, afterBlock, blocksSay}
@@ -49,3 +52,17 @@ abbrev pub UnfinishedLinesWait : Type 0
 UnfinishedLinesWait = (blocks : List (List ℕ)) (piece : List ℕ) → NoNewline piece
     → (joined blocks ≡ piece → saidSoFar start blocks ≡ [])
     × ((lines : List ℕ) → joined blocks ≡ lines ++ newline ∷ piece → saidSoFar start blocks ≡ programOutput (lines ++ newline ∷ []))
+
+-- the line of these items, "parted by single spaces"
+abbrev pub spaced : List (List ℕ) → List ℕ
+spaced [] = []
+spaced (item ∷ []) = item
+spaced (item ∷ next ∷ others) = item ++ 32 ∷ spaced (next ∷ others)
+
+-- Req 01: "A header of three numbers now means order t." a, b and c are any texts of one to three digits: the input that is the line
+-- `a b c` alone prints what `a b c b` prints, and so it is where a newline and any bytes whatever follow
+abbrev pub OrderLeftOut : Type 0
+OrderLeftOut = (a b c : List ℕ) → T (isNumber a) → T (isNumber b) → T (isNumber c)
+    → (programOutput (spaced (a ∷ b ∷ c ∷ [])) ≡ programOutput (spaced (a ∷ b ∷ c ∷ b ∷ [])))
+    × ((rest : List ℕ) → programOutput (spaced (a ∷ b ∷ c ∷ []) ++ newline ∷ rest)
+    ≡ programOutput (spaced (a ∷ b ∷ c ∷ b ∷ []) ++ newline ∷ rest))

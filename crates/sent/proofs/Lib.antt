@@ -1,4 +1,5 @@
 pub mod SmallestLaws
 pub mod SentIsNearest
+pub mod EvenMargin
 pub mod ClaimsShown
 pub mod Anchors

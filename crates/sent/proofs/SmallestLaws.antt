@@ -1,10 +1,10 @@
--- The sum of the k smallest is at most the sum of any k. Assumes nothing.
+-- The sum of the k smallest is at most the sum of any k, and at least k times what every number is at least. Assumes nothing.
 use mathlib.Core.Path.{_≡_, refl, sym, ap, _∙_, subst}
 use mathlib.Core.Logic.{by-cases}
 use mathlib.Core.Bool.{Bool, true, false, cond}
 use mathlib.Core.List.{List, [], _∷_}
-use Prim.Native.Nat.{ℕ, zero, suc, _+_, _<_, _≤_}
-use native.Mathlib.Nat.{le-refl, le-trans}
+use Prim.Native.Nat.{ℕ, zero, suc, _+_, _*_, _<_, _≤_}
+use native.Mathlib.Nat.{le-refl, le-trans, suc-mul}
 use native.Mathlib.Decide.{decLe}
 use native.Mathlib.Omega.{arith}
 use lib.Dec.{T, leb, leb→le, le→leb}
@@ -27,7 +27,7 @@ inserted : (P : List ℕ → Type 0) (x y : ℕ) (l : List ℕ) → (x ≤ y →
 inserted P x y l low high =
     by-cases (decLe x y) (λ c. subst P (sym (insert-low x y l c)) (low c)) (λ c. subst P (sym (insert-high x y l c)) (high c))
 
-abbrev AllFrom : ℕ → List ℕ → Type 0
+abbrev pub AllFrom : ℕ → List ℕ → Type 0
 AllFrom x [] = Unit {0}
 AllFrom x (y ∷ l) = (x ≤ y) × AllFrom x l
 
@@ -93,8 +93,33 @@ without-it x (y ∷ l) (suc k) h c =
     (λ d. let i = head-less y l k (h .0) (h .1) (omega arith) in omega arith)
     (λ d. let i = without-it x l k (h .1) (omega arith) in omega arith)
 
+-- where every number is v or more, k of them sum to k v or more
+sorted-from : (v : ℕ) (l : List ℕ) → AllFrom v l → AllFrom v (sorted l)
+unfolding sorted
+sorted-from v [] f = tt
+sorted-from v (x ∷ l) f = from-insert v x (sorted l) (f .0) (sorted-from v l (f .1))
+
+taken-from : (v k : ℕ) (l : List ℕ) → AllFrom v l → k ≤ length l → k * v ≤ added (take k l)
+unfolding added
+taken-from v zero l f c = omega arith
+taken-from v (suc k) [] f c = absurd (omega arith)
+taken-from v (suc k) (x ∷ l) f c = omega (arith, suc-mul k v, f .0, taken-from v k l (f .1) (omega arith))
+
+pub smallest-from : (v k : ℕ) (l : List ℕ) → AllFrom v l → k ≤ length l → k * v ≤ smallest k l
+unfolding smallest
+smallest-from v k l f c = taken-from v k (sorted l) (sorted-from v l f) (omega (arith, sorted-length l))
+
+pub values-from : (v n : ℕ) (t : ℕ → Bool) (f : ℕ → ℕ) → ((p : ℕ) → p < n → T (t p) → v ≤ f p) → AllFrom v (valuesWhere n t f)
+unfolding valuesWhere
+values-from v zero t f h = tt
+values-from v (suc n) t f h = go (t n) (h n (omega arith)) (values-from v n t f (λ p l. h p (omega arith)))
+  where
+    go : (a : Bool) → (T a → v ≤ f n) → AllFrom v (valuesWhere n t f) → AllFrom v (cond a (f n ∷ valuesWhere n t f) (valuesWhere n t f))
+    go true s i = (s tt, i)
+    go false s i = i
+
 -- q chooses among the places where t passes: it chooses no more than there are
-chosen-few : (n : ℕ) (t q : ℕ → Bool) (f : ℕ → ℕ) → ((p : ℕ) → p < n → T (q p) → T (t p))
+pub chosen-few : (n : ℕ) (t q : ℕ → Bool) (f : ℕ → ℕ) → ((p : ℕ) → p < n → T (q p) → T (t p))
     → total n (λ p. only (q p) 1) ≤ length (valuesWhere n t f)
 unfolding valuesWhere total
 chosen-few zero t q f h = omega arith

@@ -7,7 +7,7 @@ use borrow.Author.Tests.{not-true, not-false}
 use lib.Dec.{T}
 use lib.ListN.{length}
 use Rattle.input_lines.proofs.HeaderSteps.{ReadNumbers, too-long, numbers-begin, numbers-wrong, numbers-many, numbers-more}
-use Rattle.input_lines.proofs.HeaderSteps.{end-after, end-within, numbers-few, numbers-all}
+use Rattle.input_lines.proofs.HeaderSteps.{end-after, end-within, numbers-few, numbers-three, numbers-four}
 use Rattle.input_lines.proofs.header.read_header.Statement.{statement}
 use Rattle.input_lines.proofs.header.read_header.Tie as tie
 
@@ -102,23 +102,29 @@ returns-4 c =
     ∙ sym (numbers-few (c .before .before .before .before .before .before .args .text .now) (l .numbers) (l .count) (l .at) (l .inv .1)
     (c .before .before .loop-test .left) (c .before .if4 .taken))
 
-array-read-t16 : tie.Need-array-read-t16 Inv-loop μ-loop
-array-read-t16 c = omega arith
+array-read-m : tie.Need-array-read-m Inv-loop μ-loop
+array-read-m c = omega arith
 
-array-read-t19 : tie.Need-array-read-t19 Inv-loop μ-loop
-array-read-t19 c = omega arith
+array-read-t : tie.Need-array-read-t Inv-loop μ-loop
+array-read-t c = omega arith
 
-array-read-t22 : tie.Need-array-read-t22 Inv-loop μ-loop
-array-read-t22 c = omega arith
+array-read-s : tie.Need-array-read-s Inv-loop μ-loop
+array-read-s c = omega arith
 
-array-read-t25 : tie.Need-array-read-t25 Inv-loop μ-loop
-array-read-t25 c = omega arith
+array-read-order : tie.Need-array-read-order Inv-loop μ-loop
+array-read-order c = omega arith
 
 returns-5 : tie.Need-returns-5 Inv-loop μ-loop
 returns-5 c =
-    let l = c .before .before .loop in
-    sym (numbers-all (c .before .before .before .before .before .args .text .now) (l .numbers) (l .count) (l .at) (l .inv .1)
-    (c .before .loop-test .left) (l .inv .0) (c .if4 .left))
+    let l = c .before .before .before .loop in
+    sym (numbers-three (c .before .before .before .before .before .before .args .text .now) (l .numbers) (l .count) (l .at) (l .inv .1)
+    (c .before .before .loop-test .left) (l .inv .0) (c .if5 .taken))
+
+returns-6 : tie.Need-returns-6 Inv-loop μ-loop
+returns-6 c =
+    let l = c .before .before .before .loop in
+    sym (numbers-four (c .before .before .before .before .before .before .args .text .now) (l .numbers) (l .count) (l .at) (l .inv .1)
+    (c .before .before .loop-test .left) (l .inv .0) (omega (arith, l .inv .1 .fits, c .if5 .left, c .before .if4 .left)))
 
 pub read-header-spec : {M : Type 1} → statement M
 read-header-spec =
@@ -143,8 +149,9 @@ read-header-spec =
     loop-again
     wrong-requires-4
     returns-4
-    array-read-t16
-    array-read-t19
-    array-read-t22
-    array-read-t25
-    returns-5)
+    array-read-m
+    array-read-t
+    array-read-s
+    array-read-order
+    returns-5
+    returns-6)
