@@ -56,6 +56,10 @@ if command -v valgrind >/dev/null; then
     whole=$(counted target/bin/malligovu <"$build/lines")
     calls=$(counted --toggle-collect=malligovu_decode "$build/program" decodes)
     echo "instructions a word: program $((whole / 10000)), its decode calls $((calls / 10000)), $(((whole * 100 + calls / 2) / calls)) in 100"
+    for header in '6 3 0 1' '6 3 0'; do
+        sed "1s/.*/$header/" "$build/lines" >"$build/other"
+        echo "and under the header $header: $(($(counted target/bin/malligovu <"$build/other") / 10000))"
+    done
 fi
 if [ -x /usr/bin/time ]; then
     /usr/bin/time -f "%e seconds, %M KB at most" target/bin/malligovu <"$build/lines" >/dev/null
