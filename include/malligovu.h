@@ -34,8 +34,10 @@
 extern "C" {
 #endif
 
-/* The number of the last change request that is in the library (CHANGES.md in the source has them); it goes up with each, so that a
-   host can test when it is compiled what it has. Figures are only ever added at the end. */
+/* The number of the last change request that is in the library, 0 for none: requests 1 to this one are in. It goes up with each, so
+   that a host can test when it is compiled what it has, `#if MALLIGOVU_VERSION >= 1`. It is this header's, not that of a shared
+   library which is loaded later. 1: in the program a header of three numbers means order t; no function changed. CHANGES.md in the
+   source has more. */
 #define MALLIGOVU_VERSION 1
 
 /* The most of any code: the bytes of a word, W, and the soft values of a received word, n - s. */
@@ -55,7 +57,7 @@ enum malligovu_refusal {
     MALLIGOVU_UNREADABLE = 8        /* the word is no codeword, or its pad bit or an unsent bit is 1 */
 };
 
-/* Where decode's figures stand, and how many there are. */
+/* Where decode's figures stand, and how many there are; a later version adds some only at the end. */
 enum malligovu_figure {
     MALLIGOVU_DISTANCE = 0,   /* the word's soft distance */
     MALLIGOVU_FLIPS = 1,      /* at how many positions it differs from the received bits */
@@ -80,10 +82,12 @@ uint32_t malligovu_read(uint32_t m, uint32_t t, uint32_t s, const uint8_t *word,
    (among equals the lower is taken), it takes the one of least soft distance, the lowest as a number where several tie. The soft
    distance is the sum of the reliabilities where they differ. An unsent position counts as the value 127, and a word with a one
    there is written as it is.
-   A higher order refuses less (with t = 1 nothing from order 1 on, with t = 2 next to nothing from order 2 on), and some of what it no
-   longer refuses is written wrong; order 0 mostly loses more words than hard decisions do. A host to which a wrong word is worse than
-   none takes only words of a small distance or, less surely, of few flips; with t = 1 that does not shut wrong words out, since three
-   wrong bits may make another codeword, of distance 0. docs/ORDERS.md in the source has the rates.
+   A higher order refuses less (with t = 1 nothing from order 1 on, with t = 2 next to nothing from order 2 on), and some of what it
+   no longer refuses is written wrong; order 0 mostly loses more words than hard decisions do. Where all values have one size, 1 to
+   127, an order of t or more brings back every word with at most t wrong bits, and a lower one may refuse it or write another. A
+   host to which a wrong word is worse than none takes only words of a small distance or, less surely, of few flips; with t = 1 that
+   does not shut wrong words out, since three wrong bits may make another codeword, of distance 0. docs/ORDERS.md in the source has
+   the rates.
    Stack: 3,405 bytes were the most seen. Instructions, on average at an Eb/N0 of 4 dB, at orders 0, 1, 2, 3: 5,900, 6,400, 7,600,
    44,500 for n = 63, t = 3, and 2,650, 2,950, 7,500, 30,300 for n = 15, t = 1; the most at n = 63, t = 1, order 3: 655,800.
    Refuses: 1, 2, 3, 4, 5, 6.

@@ -1,23 +1,23 @@
--- A hard-sliced word with at most t wrong bits comes back at order t: demand 3 with the margin of even sizes. Assumes nothing.
-use mathlib.Core.Path.{_≡_, sym, ap, ap₂, _∙_, subst}
+-- A hard-sliced word with at most t wrong bits comes back at order t or more: demand 3, its margin by the size of the values. Assumes
+-- nothing.
+use mathlib.Core.Path.{_≡_, ap₂, subst}
 use mathlib.Core.Logic.{by-cases}
 use mathlib.Core.Bool.{not, false, _&&_}
 use Prim.Native.Nat.{ℕ, _-_, _*_, _<_, _≤_}
 use native.Mathlib.Decide.{decLt}
 use native.Mathlib.Omega.{arith}
 use lib.Dec.{T, eqb}
-use lib.IntN.{pos, natAbs}
-use lib.ListN.{length, List·getD-eq-default}
+use lib.ListN.{length}
 use Rattle.field.specs.Field.{lengthOf}
 use Rattle.field.proofs.TestLaws.{and-right}
 use Rattle.field.proofs.TotalLaws.{total-le, only-le}
-use Rattle.codes.specs.Codeword.{bitOf}
 use Rattle.codes.proofs.WordLaws.{bit-high}
 use Rattle.codes.proofs.ShapeLaws.{length-large}
-use Rattle.soft.specs.Value.{softAt, hardOf, hard, reliability}
+use Rattle.soft.specs.Value.{reliability}
 use Rattle.soft.specs.Order.{reliable}
 use Rattle.soft.specs.Distance.{differs, flipsOf, reliableFlips}
-use Rattle.sent.proofs.EvenMargin.{even-margin}
+use Rattle.soft.proofs.ValueLaws.{hard-unsent, reliability-unsent}
+use Rattle.sent.proofs.MarginBySize.{margin-by-size}
 use Rattle.frame.proofs.RefusalLaws.{DecodePassed, decode-passed}
 use Rattle.decode.specs.Call.{Call, checksOf}
 use Rattle.demands.specs.Demand3.{wrongSum, rightSum, Sent}
@@ -29,15 +29,15 @@ module _ (c : Call) (checked : checksOf c ≡ 0) (v w : ℕ) (h : HardSliced c v
   passed : DecodePassed (c .m) (c .t) (c .s) (c .order) (length (c .soft)) (length (c .before))
   passed = decode-passed (c .m) (c .t) (c .s) (c .order) (length (c .soft)) (length (c .before)) checked
 
-  -- an unsent place has the value 127, and there the word is right
-  unsent-value : (p : ℕ) → lengthOf (c .m) - c .s ≤ p → softAt (c .soft) p ≡ pos 127
-  unfolding softAt
-  unsent-value p l = List·getD-eq-default (c .soft) (pos 127) (omega (arith, passed .count))
+  -- the values are those of the places that were sent
+  past : (p : ℕ) → lengthOf (c .m) - c .s ≤ p → length (c .soft) ≤ p
+  past p l = omega (arith, passed .count)
 
+  -- where nothing was sent the word is right
   unsent-right : (p : ℕ) → lengthOf (c .m) - c .s ≤ p → differs (c .soft) w p ≡ false
-  unfolding differs hard
+  unfolding differs
   unsent-right p l =
-      ap₂ (λ (x y : ℕ). not (eqb x y)) (bit-high w (lengthOf (c .m) - c .s) p (h .unsent) l) (ap hardOf (unsent-value p l))
+      ap₂ (λ (x y : ℕ). not (eqb x y)) (bit-high w (lengthOf (c .m) - c .s) p (h .unsent) l) (hard-unsent (c .soft) p (past p l))
 
   most : (p : ℕ) → p < lengthOf (c .m) → T (differs (c .soft) w p) → reliability (c .soft) p ≤ v
   most p _ t =
@@ -45,13 +45,12 @@ module _ (c : Call) (checked : checksOf c ≡ 0) (v w : ℕ) (h : HardSliced c v
       (λ l. absurd (subst T (unsent-right p (omega arith)) t))
 
   least : (p : ℕ) → p < lengthOf (c .m) → T (not (differs (c .soft) w p)) → v ≤ reliability (c .soft) p
-  unfolding reliability
   least p _ t =
       by-cases (decLt p (lengthOf (c .m) - c .s)) (λ l. omega (arith, h .sizes p l))
-      (λ l. subst (λ (x : ℕ). v ≤ x) (sym (ap natAbs (unsent-value p (omega arith)))) (h .high))
+      (λ l. omega (arith, h .high, reliability-unsent (c .soft) p (past p (omega arith))))
 
   margin : wrongSum c w < rightSum c w
-  margin = even-margin (c .m) (2 * c .t) v (c .soft) w (h .low) wide (omega (arith, h .few)) most least
+  margin = margin-by-size (c .m) (2 * c .t) v (c .soft) w (h .low) wide (omega (arith, h .few)) most least
     where
       wide : 2 * c .t < lengthOf (c .m)
       wide = omega (arith, passed .known .t-high, length-large (c .m) (passed .known .m-low) (passed .known .m-high))

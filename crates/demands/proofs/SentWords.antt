@@ -1,9 +1,10 @@
 -- The two codewords of the settled examples as sent words, and a hard-sliced word: computed. Assumes nothing.
 use mathlib.Core.Path.{_≡_, refl}
 use mathlib.Core.List.{List, [], _∷_, _++_}
-use Prim.Native.Nat.{ℕ, _<_}
+use Prim.Native.Nat.{ℕ, zero, suc, _<_, _≤_}
+use native.Mathlib.Omega.{arith}
 use lib.Dec.{ltb→lt, leb→le}
-use lib.IntN.{ℤ, negsuc}
+use lib.IntN.{ℤ, pos, negsuc}
 use Rattle.field.proofs.TestLaws.{agree}
 use Rattle.codes.specs.Codeword.{bitOf, valueAt}
 use Rattle.soft.specs.Value.{reliability}
@@ -53,21 +54,33 @@ pub equal-tied : wrongSum (calling 1 tied) 0x6004 ≡ rightSum (calling 1 tied) 
 unfolding computing
 equal-tied = refl
 
--- Req 01's case: m=4, t=2, s=0, order t, values 10 but -10 at positions 0 and 1, and the zero word sent
+-- a hard-sliced word, shortened and not zero: m=4, t=2, s=3, order 2; sent d1 01, the generator (721 in octal), whose ones stand at 0, 4, 6,
+-- 7 and 8. Values of size 10, two of them wrong, at 0 and 1
 abbrev sliced : Call
-sliced = record { m = 4; t = 2; s = 0; order = 2; soft = negsuc 9 ∷ negsuc 9 ∷ tens 13; before = lent }
+sliced = record { m = 4; t = 2; s = 3; order = 2; soft = values; before = lent }
+  where
+    wrong : List ℤ
+    wrong = pos 10 ∷ negsuc 9 ∷ []
+
+    values : List ℤ
+    values = wrong ++ (tens 2 ++ (negsuc 9 ∷ pos 10 ∷ negsuc 9 ∷ negsuc 9 ∷ negsuc 9 ∷ tens 3))
 
 pub sliced-passes : checksOf sliced ≡ 0
 unfolding computing
 sliced-passes = refl
 
-pub sliced-two-wrong : HardSliced sliced 10 0
+pub sliced-two-wrong : HardSliced sliced 10 0x1d1
 unfolding computing
 sliced-two-wrong = record {
   low = leb→le _ _ tt;
   high = leb→le _ _ tt;
-  sizes = agree 15 (reliability (sliced .soft)) (λ (p : ℕ). 10) tt;
-  codeword = record { bits = ltb→lt _ _ tt; roots = λ e _ l. agree 5 (valueAt 4 (bitOf 0)) (λ (e : ℕ). 0) tt e l };
+  sizes = agree 12 (reliability (sliced .soft)) (λ (p : ℕ). 10) tt;
+  codeword = record { bits = ltb→lt _ _ tt; roots = roots };
   unsent = ltb→lt _ _ tt;
   few = leb→le _ _ tt;
 }
+  where
+    -- at a^0 the value is 1, so only the powers from 1 on are tested
+    roots : (e : ℕ) → 1 ≤ e → e < 5 → valueAt 4 (bitOf 0x1d1) e ≡ 0
+    roots zero low high = absurd (omega arith)
+    roots (suc e) low high = agree 4 (λ (x : ℕ). valueAt 4 (bitOf 0x1d1) (suc x)) (λ (x : ℕ). 0) tt e (omega arith)

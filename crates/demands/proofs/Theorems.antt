@@ -62,6 +62,7 @@ use Rattle.demands.proofs.AtEquality.{equality-shown}
 use Rattle.demands.proofs.RejectedShown as wrong
 use Rattle.settled.proofs.SettledShown as shown
 use Rattle.settled.specs.WholeExample.{WholeExample}
+use Rattle.settled.specs.OrderExample.{OrderOneIsWrong}
 use Rattle.settled.proofs.WholeExampleShown as whole
 
 -- the demands: whatever keeps the contracts meets them, ours do, and nothing else does
@@ -117,6 +118,9 @@ settled-examples = shown.settled-shown
 
 pub whole-example : WholeExample
 whole-example = whole.whole-example
+
+pub order-one-is-wrong : OrderOneIsWrong
+order-one-is-wrong = whole.order-one-is-wrong
 
 -- the functions of the C interface meet their contracts
 pub c-encode-meets-its-contract : {M : Type 1} → c-encode-stated.statement M

@@ -2,8 +2,9 @@
 use mathlib.Core.Path.{_≡_, refl, sym, ap, ap₂, _∙_, subst}
 use mathlib.Core.Logic.{_≢_, ⊎-elim, by-cases}
 use mathlib.Core.Bool.{Bool, true, false}
-use Prim.Native.Nat.{ℕ, zero, suc, _+_, _<_, _≤_, min}
-use native.Mathlib.Nat.{not-suc-le-zero, eq-or-lt-of-le, le-of-suc-le-suc, le-refl, add-suc}
+use Prim.Native.Nat.{ℕ, zero, suc, _+_, _*_, _<_, _≤_, min}
+use native.Mathlib.Nat.{not-suc-le-zero, eq-or-lt-of-le, le-of-suc-le-suc, le-refl, add-suc, suc-mul}
+use native.Mathlib.Numerals.{add-one}
 use native.Mathlib.Decide.{decLt}
 use native.Mathlib.Omega.{arith}
 use lib.Dec.{T, eqb, eqb→eq, eqb-refl, ltb, ltb→lt, lt→ltb}
@@ -50,6 +51,25 @@ pub total-ones : (n : ℕ) → total n (λ p. 1) ≡ n
 unfolding total
 total-ones zero = refl
 total-ones (suc n) = omega (arith, total-ones n)
+
+-- no more numbers pass a test than there are
+pub count-most : (n : ℕ) (t : ℕ → Bool) → total n (λ p. only (t p) 1) ≤ n
+count-most n t = omega (arith, total-le n (λ p. only (t p) 1) (λ p. 1) (λ p _. only-le (t p) true 1 (λ _. tt)), total-ones n)
+
+-- terms of which each that passes is at most x
+pub total-most : (n x : ℕ) (t : ℕ → Bool) (f : ℕ → ℕ) → ((p : ℕ) → p < n → T (t p) → f p ≤ x)
+    → total n (λ p. only (t p) (f p)) ≤ total n (λ p. only (t p) 1) * x
+unfolding total
+total-most zero x t f h = omega arith
+total-most (suc n) x t f h = go (t n) (h n (omega arith)) (total-most n x t f (λ p l. h p (omega arith)))
+  where
+    count : ℕ
+    count = total n (λ p. only (t p) 1)
+
+    go : (a : Bool) → (T a → f n ≤ x) → total n (λ p. only (t p) (f p)) ≤ count * x
+        → total n (λ p. only (t p) (f p)) + only a (f n) ≤ (count + only a 1) * x
+    go true s i = rw (add-one count, suc-mul count x) (omega (arith, i, s tt))
+    go false s i = omega (arith, i)
 
 pub total-zero : (n : ℕ) (f : ℕ → ℕ) → ((p : ℕ) → p < n → f p ≡ 0) → total n f ≡ 0
 unfolding total

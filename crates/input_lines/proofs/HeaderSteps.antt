@@ -2,20 +2,18 @@
 --   ReadNumbers   the loop's invariant: the first `count` of the four numbers are those of the items read
 --   numbers-begin, numbers-more   before the first item, an item more
 --   too-long, numbers-wrong, numbers-many, numbers-few   where the header is wrong
---   numbers-three, numbers-four   three numbers are a header, and so are four
+--   numbers-three, numbers-four   three numbers are the header whose order is the second of them, four the one whose order is the fourth
 -- Assumes nothing.
 use mathlib.Core.Path.{_≡_, refl, sym, ap, subst, _∙_}
-use mathlib.Core.Logic.{⊎-elim}
 use mathlib.Core.Bool.{Bool, true, false, cond, not, _&&_, and-false}
 use mathlib.Core.List.{List, [], _∷_, _++_, map}
 use Prim.Native.Nat.{ℕ, _+_, _≤_, _<_}
-use native.Mathlib.Nat.{eq-or-lt-of-le}
 use native.Mathlib.Numerals.{add-one}
 use native.Mathlib.Omega.{arith}
 use borrow.Author.Tests.{le-leb, lt-leb}
 use lib.Dec.{T, leb}
 use lib.ListN.{length, getD, take, drop, set, length-set}
-use lib.Seq.{length-take-le, take-suc-set, drop-set-lt, drop-drop}
+use lib.Seq.{length-take-le, take-suc-set}
 use Rattle.items.specs.Line.{lineFits, items, isNumber, numberOf, every}
 use Rattle.input_lines.specs.Header.{wrongHeader, headerWith, headerIn, headerOf}
 use Rattle.items.specs.Scan.{holdsNumber, firstItem, foundAt}

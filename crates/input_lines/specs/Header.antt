@@ -1,5 +1,6 @@
 -- The first line: which header its text is (document 01, "The program"; Req 01). Everything here computes.
 --   wrongHeader     what stands for a wrong header
+--   headerWith      a good header with these four numbers
 --   headerIn ns     the header whose numbers are ns
 --   headerOf text   the header that a text is
 -- Assumes nothing.

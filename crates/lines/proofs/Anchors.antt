@@ -1,4 +1,4 @@
--- Lines of the paper that are computed, so that a wrong definition fails here. Assumes nothing.
+-- Lines of the paper and of the requests that are computed, so that a wrong definition fails here. Assumes nothing.
 use mathlib.Core.Path.{_≡_, refl}
 use mathlib.Core.Bool.{true, false}
 use mathlib.Core.List.{[], _∷_, map}
@@ -10,14 +10,24 @@ use Rattle.input_lines.specs.Header.{wrongHeader, headerWith, headerOf}
 use Rattle.input_lines.specs.WordLine.{isValue, valueOf, valuesOf}
 use Rattle.output_lines.specs.Text.{bytesIn}
 use Rattle.output_lines.specs.Output.{decimalIn, decimal, hexOf, refusedLine, okLine}
-use Rattle.lines.specs.Answer.{refusalOf}
+use Rattle.lines.specs.Answer.{refusalOf, callOf}
 use Rattle.lines.specs.Program.{linesOf}
 
--- the example's header, one whose order is left out and so is t, and the same two with zeros before their numbers
-headers : map headerOf (bytesIn "4 1 0 1" ∷ bytesIn "4 2 0" ∷ bytesIn "04 001 0 3" ∷ bytesIn "4 02 000" ∷ [])
-    ≡ headerWith 4 1 0 1 ∷ headerWith 4 2 0 2 ∷ headerWith 4 1 0 3 ∷ headerWith 4 2 0 2 ∷ []
+-- the example's header, and one with zeros before its numbers
+headers : map headerOf (bytesIn "4 1 0 1" ∷ bytesIn "04 001 0 3" ∷ []) ≡ headerWith 4 1 0 1 ∷ headerWith 4 1 0 3 ∷ []
 unfolding headerOf items isNumber numberOf
 headers = refl
+
+-- Req 01: an order that is left out is t, with zeros before it too
+left-out : map headerOf (bytesIn "4 1 0" ∷ bytesIn "4 2 0" ∷ bytesIn "4 02 000" ∷ bytesIn "6 3 0" ∷ [])
+    ≡ headerWith 4 1 0 1 ∷ headerWith 4 2 0 2 ∷ headerWith 4 2 0 2 ∷ headerWith 6 3 0 3 ∷ []
+unfolding headerOf items isNumber numberOf
+left-out = refl
+
+-- and a header's order is the one that decode is given: `4 2 0` asks for order 2, `4 2 0 1` for 1
+orders-asked : map (λ text. callOf (headerOf text) [] .order) (bytesIn "4 2 0" ∷ bytesIn "4 2 0 1" ∷ []) ≡ 2 ∷ 1 ∷ []
+unfolding headerOf items isNumber numberOf
+orders-asked = refl
 
 -- too few numbers, too many, two spaces, a space at the end, a minus, and a blank line
 wrong-headers : map headerOf (bytesIn "4 1" ∷ bytesIn "4 1 0 1 1" ∷ bytesIn "4  1 0" ∷ bytesIn "4 1 0 " ∷ bytesIn "4 1 -0" ∷ [] ∷ [])

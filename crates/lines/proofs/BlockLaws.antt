@@ -27,10 +27,10 @@ unfolding afterBlock
 after-append m [] b = refl
 after-append m (x ∷ a) b = after-append (afterByte m x) a b
 
-tail-too : (b : ℕ) (piece : List ℕ) → NoNewline (b ∷ piece) → NoNewline piece
+pub tail-too : (b : ℕ) (piece : List ℕ) → NoNewline (b ∷ piece) → NoNewline piece
 tail-too b piece none k h e = none (suc k) (omega arith) e
 
-no-newline : (b : ℕ) (piece : List ℕ) → NoNewline (b ∷ piece) → eqb b newline ≡ false
+pub no-newline : (b : ℕ) (piece : List ℕ) → NoNewline (b ∷ piece) → eqb b newline ≡ false
 no-newline b piece none = ne-eqb b newline (none 0 (omega arith))
 
 pub says-piece : (m : Memory) (piece : List ℕ) → NoNewline piece → blockSays m piece ≡ []

@@ -7,7 +7,7 @@ pub fn say() {
         STDERR_FILENO,
         b"\
         usage: malligovu <input >answers\n\
-        It takes no argument. The first line of its input is the header, 'm t s order' or 'm t s'; each other line is a\n\
-        received word, its soft values parted by single spaces. See malligovu(1).\n",
+        It takes no argument. The first line of its input is the header, 'm t s order', or 'm t s' for order t; each\n\
+        other line is a received word, its soft values parted by single spaces. See malligovu(1).\n",
     );
 }

@@ -14,10 +14,11 @@ use native.Mathlib.Nat.{eq-or-lt-of-le, not-suc-le-zero, le-of-suc-le-suc}
 use native.Mathlib.Decide.{decLt, ℕ-discrete}
 use native.Mathlib.Omega.{arith}
 use lib.IntN.{ℤ, pos, negsuc, natAbs}
-use lib.ListN.{length, getD, set, replicate, length-set, length-replicate, getD-replicate, List·getD-eq-default}
+use lib.ListN.{length, getD, set, replicate, length-set, length-replicate, getD-replicate}
 use lib.Seq.{getD-set-same, getD-set-other}
 use Rattle.codes.specs.Codeword.{wordOf}
 use Rattle.soft.specs.Value.{softAt, hardOf, hard, reliability}
+use Rattle.soft.proofs.ValueLaws.{hard-unsent, reliability-unsent}
 use Rattle.received.specs.Receives.{Receives}
 use Rattle.received.specs.Inner.Reliabilities.{Reliabilities}
 use Rattle.codes.proofs.WordSteps.{wordFrom, word-from-more, word-from-lt, word-longer}
@@ -45,14 +46,6 @@ module _ (soft : List ℤ) where
   reliability-sent : (p : ℕ) (v : ℤ) → p < length soft → v ≡ getD soft p (pos 0) → natAbs v ≡ reliability soft p
   unfolding reliability softAt
   reliability-sent p v l e = ap natAbs (e ∙ default-unused soft p (pos 0) (pos 127) l)
-
-  hard-unsent : (p : ℕ) → length soft ≤ p → hard soft p ≡ 0
-  unfolding hard softAt
-  hard-unsent p l = ap hardOf (List·getD-eq-default soft (pos 127) l)
-
-  reliability-unsent : (p : ℕ) → length soft ≤ p → 127 ≡ reliability soft p
-  unfolding reliability softAt
-  reliability-unsent p l = sym (ap natAbs (List·getD-eq-default soft (pos 127) l))
 
   -- the hard decisions from p on are in
   abbrev pub HardsFrom : ℕ → ℕ → Type 0
@@ -117,14 +110,14 @@ module _ (soft : List ℤ) where
     pub all-in : length soft ≤ p → Reliabilities soft values
     all-in end k l = (
       by-cases (decLt k p) (λ b. before .sent k b)
-          (λ b. before .unsent k (omega arith) l ∙ reliability-unsent k (omega (arith, before .at))),
+          (λ b. before .unsent k (omega arith) l ∙ sym (reliability-unsent soft k (omega (arith, before .at)))),
       before .small k l,
     )
 
   pub received : (hards : ℕ) (values : List ℕ) → hards ≡ wordOf (length soft) (hard soft) → Reliabilities soft values
       → Receives soft (record { hards = hards; reliability = values })
   received hards values h r = record {
-    hards = λ n l. h ∙ sym (word-longer n (length soft) (hard soft) l hard-unsent);
+    hards = λ n l. h ∙ sym (word-longer n (length soft) (hard soft) l (hard-unsent soft));
     reliabilities = λ k l. r k l .0;
     small = λ k l. r k l .1;
   }

@@ -1,5 +1,5 @@
 pub mod SmallestLaws
 pub mod SentIsNearest
-pub mod EvenMargin
+pub mod MarginBySize
 pub mod ClaimsShown
 pub mod Anchors

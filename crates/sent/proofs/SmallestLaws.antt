@@ -1,4 +1,5 @@
--- The sum of the k smallest is at most the sum of any k, and at least k times what every number is at least. Assumes nothing.
+-- The sum of the k smallest of a list of k or more is at most the sum of any k, and at least k v where no number is below v. Assumes
+-- nothing.
 use mathlib.Core.Path.{_≡_, refl, sym, ap, _∙_, subst}
 use mathlib.Core.Logic.{by-cases}
 use mathlib.Core.Bool.{Bool, true, false, cond}
@@ -93,7 +94,7 @@ without-it x (y ∷ l) (suc k) h c =
     (λ d. let i = head-less y l k (h .0) (h .1) (omega arith) in omega arith)
     (λ d. let i = without-it x l k (h .1) (omega arith) in omega arith)
 
--- where every number is v or more, k of them sum to k v or more
+-- where no number is below v, the k smallest sum to k v or more
 sorted-from : (v : ℕ) (l : List ℕ) → AllFrom v l → AllFrom v (sorted l)
 unfolding sorted
 sorted-from v [] f = tt

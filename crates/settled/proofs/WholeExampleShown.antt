@@ -1,5 +1,9 @@
--- The whole example: its two words are computed through the search, the rest through the text forms. Assumes nothing.
+-- Inputs of the program whose output is computed: words through the search, the rest through the text forms.
+--   running                             what such an example opens
+--   whole-example, order-one-is-wrong   document 01's whole example, and Req 01's case at order 1
+-- Assumes nothing.
 use mathlib.Core.Path.{refl}
+use Prim.Native.Nat.{ℕ}
 use native.Mathlib.Decide.{ℕ-discrete}
 use Rattle.field.specs.Below.{lastOf, total}
 use Rattle.field.specs.Field.{_⊕_, xorSum, bitTimes, modulus, reduction, lengthOf, timesAlpha, shiftAdd, times, alphaTo, inverseOf}
@@ -22,8 +26,9 @@ use Rattle.output_lines.specs.Output.{decimalIn, decimal, hexOf, refusedLine, o
 use Rattle.lines.specs.Answer.{headerSays, headerAnswer, headerGoesOn, resultLine, wordAnswer}
 use Rattle.lines.specs.Program.{linesOf, wordAnswers, answersTo, programOutput}
 use Rattle.settled.specs.WholeExample.{WholeExample}
+use Rattle.settled.specs.OrderExample.{OrderOneIsWrong}
 
-pub whole-example : WholeExample
+unfoldable running : ℕ
 unfolding
     lastOf total _⊕_ xorSum bitTimes modulus reduction lengthOf timesAlpha shiftAdd times alphaTo inverseOf ℕ-discrete
     bitOf wordOf entryOf dimensionOf unless others quotients cell lagrange
@@ -33,4 +38,12 @@ unfolding
     items isNumber numberOf headerOf isValue valueOf valuesOf decimalIn decimal hexOf refusedLine okLine
     headerRefusal headerSays headerAnswer headerGoesOn resultLine wordAnswer
     linesOf wordAnswers answersTo programOutput
+running = 0
+
+pub whole-example : WholeExample
+unfolding running
 whole-example = refl
+
+pub order-one-is-wrong : OrderOneIsWrong
+unfolding running
+order-one-is-wrong = refl

@@ -1,3 +1,4 @@
 pub mod SettledCalls
 pub mod Settled
 pub mod WholeExample
+pub mod OrderExample

@@ -1,4 +1,5 @@
 pub mod OrderLaws
 pub mod DistanceLaws
+pub mod ValueLaws
 pub mod Anchors
 pub mod CandidateLaws
