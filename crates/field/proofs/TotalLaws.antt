@@ -1,4 +1,4 @@
--- Sums and counts over the numbers below n: term by term, two at once, in another order. Assumes nothing.
+-- Sums and counts over the numbers below n: term by term, two at once, in another order; bounds. Assumes nothing.
 use mathlib.Core.Path.{_≡_, refl, sym, ap, ap₂, _∙_, subst}
 use mathlib.Core.Logic.{_≢_, ⊎-elim, by-cases}
 use mathlib.Core.Bool.{Bool, true, false}
@@ -56,7 +56,7 @@ total-ones (suc n) = omega (arith, total-ones n)
 pub count-most : (n : ℕ) (t : ℕ → Bool) → total n (λ p. only (t p) 1) ≤ n
 count-most n t = omega (arith, total-le n (λ p. only (t p) 1) (λ p. 1) (λ p _. only-le (t p) true 1 (λ _. tt)), total-ones n)
 
--- terms of which each that passes is at most x
+-- where each term that passes is at most x, they sum to at most x times their number
 pub total-most : (n x : ℕ) (t : ℕ → Bool) (f : ℕ → ℕ) → ((p : ℕ) → p < n → T (t p) → f p ≤ x)
     → total n (λ p. only (t p) (f p)) ≤ total n (λ p. only (t p) 1) * x
 unfolding total

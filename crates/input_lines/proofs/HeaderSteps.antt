@@ -1,6 +1,7 @@
 -- Reading the header, as the loop takes it.
 --   ReadNumbers   the loop's invariant: the first `count` of the four numbers are those of the items read
 --   numbers-begin, numbers-more   before the first item, an item more
+--   end-after, end-within   an item ends at its start or after it, and within the text
 --   too-long, numbers-wrong, numbers-many, numbers-few   where the header is wrong
 --   numbers-three, numbers-four   three numbers are the header whose order is the second of them, four the one whose order is the fourth
 -- Assumes nothing.

@@ -1,4 +1,5 @@
--- What a block prints and what is remembered after it, piece by piece: up to a newline, a newline, and the rest.
+-- What a block prints and what is remembered after it, piece by piece: up to a newline, a newline, and the rest. A text without a newline,
+-- byte by byte: tail-too, no-newline.
 -- Assumes nothing.
 use mathlib.Core.Path.{_≡_, refl, ap, ap₂, sym, _∙_}
 use mathlib.Core.Bool.{Bool, false}

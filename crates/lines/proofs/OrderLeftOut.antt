@@ -134,7 +134,7 @@ header-said a l t few =
       is-true (every isNumber (a ∷ l)) t,
     )
 
--- what a first line prints and what follows it goes by its header
+-- what is printed for a first line and after it goes by its text only through its header
 by-header : (a b : List ℕ) (words : List (List ℕ)) → headerOf a ≡ headerOf b → answersTo (a ∷ words) ≡ answersTo (b ∷ words)
 unfolding answersTo headerAnswer
 by-header a b words e = ap (λ (h : Header). headerSays h ++ wordsIf (headerGoesOn h) h words) e
@@ -146,7 +146,7 @@ module _ (a b c : List ℕ) (ha : T (isNumber a)) (hb : T (isNumber b)) (hc : T 
   abbrev four : List ℕ
   four = spaced (a ∷ b ∷ c ∷ b ∷ [])
 
-  -- each is a number, and so are those of any line that begins with them
+  -- a, b, c and further numbers are all numbers
   numbers : (l : List (List ℕ)) → T (every isNumber l) → T (every isNumber (a ∷ b ∷ c ∷ l))
   numbers l t =
       and-both (isNumber a) _ ha (and-both (isNumber b) _ hb (and-both (isNumber c) _ hc t))

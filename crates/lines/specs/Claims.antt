@@ -4,7 +4,8 @@
 --   NothingAfterTheEnd     once the program has ended it prints nothing, so that it need not read on
 --   NothingIsGuessed       whatever was read so far, what is printed is a beginning of what every input that begins so prints
 --   UnfinishedLinesWait    and it is what the finished lines print: of a line that has not ended nothing is printed
---   OrderLeftOut           an input whose header leaves the order out is answered as one whose header writes t there; spaced: its lines
+--   OrderLeftOut           an input whose header leaves the order out is answered as one whose header writes t there
+-- They are said with joined, saidSoFar, BeginningOf, NoNewline and spaced, a line made of its items.
 -- Assumes nothing.
 use mathlib.Core.Path.{_≡_}
 use mathlib.Core.List.{List, [], _∷_, _++_}

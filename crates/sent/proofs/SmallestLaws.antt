@@ -28,6 +28,7 @@ inserted : (P : List ℕ → Type 0) (x y : ℕ) (l : List ℕ) → (x ≤ y →
 inserted P x y l low high =
     by-cases (decLe x y) (λ c. subst P (sym (insert-low x y l c)) (low c)) (λ c. subst P (sym (insert-high x y l c)) (high c))
 
+-- no number of the list is below x
 abbrev pub AllFrom : ℕ → List ℕ → Type 0
 AllFrom x [] = Unit {0}
 AllFrom x (y ∷ l) = (x ≤ y) × AllFrom x l
@@ -110,6 +111,7 @@ pub smallest-from : (v k : ℕ) (l : List ℕ) → AllFrom v l → k ≤ length 
 unfolding smallest
 smallest-from v k l f c = taken-from v k (sorted l) (sorted-from v l f) (omega (arith, sorted-length l))
 
+-- the values where a test passes, none of them below v
 pub values-from : (v n : ℕ) (t : ℕ → Bool) (f : ℕ → ℕ) → ((p : ℕ) → p < n → T (t p) → v ≤ f p) → AllFrom v (valuesWhere n t f)
 unfolding valuesWhere
 values-from v zero t f h = tt
