@@ -47,7 +47,14 @@ pub fn deviation(rate: f64, decibels: f64) -> f64 {
     (1.0 / (2.0 * rate * 10f64.powf(decibels / 10.0))).sqrt()
 }
 
-/// What is received of a word: a bit 0 is sent as +1 and a bit 1 as -1, and 48 is the size of a value without noise.
+const SIZE: f64 = 48.0; // of a value without noise
+
+/// Hard decisions: every value keeps its sign, and all have one size.
+pub fn slice(soft: &mut [i8]) {
+    soft.iter_mut().for_each(|value| *value = if *value < 0 { -SIZE as i8 } else { SIZE as i8 });
+}
+
+/// What is received of a word: a bit 0 is sent as +1 and a bit 1 as -1, and rounded to signed bytes.
 pub fn receive(random: &mut Random, word: u64, sigma: f64, soft: &mut [i8]) {
     let mut spare = None;
     for (p, value) in soft.iter_mut().enumerate() {
@@ -57,6 +64,6 @@ pub fn receive(random: &mut Random, word: u64, sigma: f64, soft: &mut [i8]) {
             now
         });
         let sent = if word >> p & 1 == 1 { -1.0 } else { 1.0 };
-        *value = (48.0 * (sent + sigma * noise)).round().clamp(-128.0, 127.0) as i8;
+        *value = (SIZE * (sent + sigma * noise)).round().clamp(-128.0, 127.0) as i8;
     }
 }

@@ -1,6 +1,6 @@
 //! What becomes of words in noise, order by order: refused, handed on though another was sent, or handed on right. All orders decode the
 //! same words, and a point takes all its words: stopping at so many errors would make the rare ones uncertain.
-use crate::channel::{deviation, receive, Random};
+use crate::channel::{deviation, receive, slice, Random};
 use crate::library;
 use std::sync::atomic::{AtomicUsize, Ordering};
 use std::sync::Mutex;
@@ -87,6 +87,7 @@ pub struct Asking {
     pub decibels: f64,
     pub words: u32,
     pub seed: u64,
+    pub sliced: bool, // hard-sliced: all values of one size
 }
 
 #[derive(Clone)]
@@ -118,6 +119,9 @@ fn measure(of: Asking) -> Point {
         assert_eq!(library::encode(code.m, code.t, 0, random.below(1 << code.k), &mut sent), 0);
         let word = u64::from_le_bytes(sent);
         receive(&mut random, word, sigma, &mut soft);
+        if of.sliced {
+            slice(&mut soft);
+        }
         seen.too_many += u32::from((0..n).filter(|&p| !agrees(&soft, word, p)).count() > code.t as usize);
         seen.orders.iter_mut().enumerate().for_each(|(order, one)| one.add(code, order as u32, &soft, sent));
     }

@@ -85,14 +85,20 @@ fn hosts_of_others(others: &[Point]) {
     hosts(&columns.collect::<Vec<_>>(), &ASKED_OF_OTHERS);
 }
 
-/// The points of one code, by rising Eb/N0, and those of the others.
-pub fn print(curve: &[Point], others: &[Point]) {
+fn code_and_decibels(seen: &Point) -> String {
+    format!("({},{}), {}", seen.of.code.n(), seen.of.code.k, seen.of.decibels)
+}
+
+/// The points of one code, by rising Eb/N0, those of the others, and those of hard-sliced words.
+pub fn print(curve: &[Point], others: &[Point], sliced: &[Point]) {
     println!("(63,45), {} words a point: refused and wrong in a thousand words sent\n", thousands(curve[0].of.words));
     losses("dB", curve.iter(), |seen| seen.of.decibels.to_string());
     println!("\nwrong words taken and right words given up, in a thousand sent, by what a host asks of a word that it is handed\n");
     hosts_of_curve(curve);
     println!("\nthe other codes, {} words a point: refused and wrong in a thousand words sent\n", thousands(others[0].of.words));
-    losses("code, dB", others.iter(), |seen| format!("({},{}), {}", seen.of.code.n(), seen.of.code.k, seen.of.decibels));
+    losses("code, dB", others.iter(), code_and_decibels);
     println!("\nthe same at 3 dB and order 2, by what a host asks of a word that it is handed\n");
     hosts_of_others(others);
+    println!("\nhard-sliced words, {} words a point: refused and wrong in a thousand words sent\n", thousands(sliced[0].of.words));
+    losses("code, dB", sliced.iter(), code_and_decibels);
 }

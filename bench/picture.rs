@@ -157,19 +157,23 @@ fn drawn(all: &[Point]) -> String {
     out + "</svg>\n"
 }
 
-// the code of the picture at 0 to 6 dB in halves, and then the others at three points, with a tenth of the words
+// the code of the picture at 0 to 6 dB in halves; then, with a tenth of the words, the others at three points, and hard-sliced words where an
+// order that is left out is not 1
 fn asked(words: u32) -> Vec<Asking> {
     let code = |(m, t, k): (u32, u32, u32)| Code { m, t, k };
-    let curve = (0..13u32).map(|point| Asking { code: DRAWN, decibels: f64::from(point) / 2.0, words, seed: u64::from(point) + 1 });
+    let curve = (0..13u32).map(|point| Asking { code: DRAWN, decibels: f64::from(point) / 2.0, words, seed: u64::from(point) + 1, sliced: false });
     let others = CODES.map(code).into_iter().filter(|&other| other != DRAWN).flat_map(|code| [3.0, 5.0, 7.0].map(|decibels| (code, decibels)));
-    let others = others.enumerate().map(|(i, (code, decibels))| Asking { code, decibels, words: words / 10, seed: 100 + i as u64 });
-    curve.chain(others).collect()
+    let others = others.enumerate().map(|(i, (code, decibels))| Asking { code, decibels, words: words / 10, seed: 100 + i as u64, sliced: false });
+    let sliced = CODES.map(code).into_iter().filter(|code| code.t > 1).flat_map(|code| [3.0, 5.0, 7.0].map(|decibels| (code, decibels)));
+    let sliced = sliced.enumerate().map(|(i, (code, decibels))| Asking { code, decibels, words: words / 10, seed: 200 + i as u64, sliced: true });
+    curve.chain(others).chain(sliced).collect()
 }
 
 fn main() {
     let arguments: Vec<String> = std::env::args().collect();
     let all = errors::measure_all(&asked(arguments[1].parse().expect("the number of words")));
-    let (curve, others) = all.split_at(all.iter().filter(|seen| seen.of.code == DRAWN).count());
-    orders::print(curve, others);
+    let (soft, sliced) = all.split_at(all.iter().filter(|seen| !seen.of.sliced).count());
+    let (curve, others) = soft.split_at(soft.iter().filter(|seen| seen.of.code == DRAWN).count());
+    orders::print(curve, others, sliced);
     std::fs::write(&arguments[2], drawn(curve)).expect("the picture's file");
 }
