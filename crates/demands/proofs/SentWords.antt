@@ -54,8 +54,8 @@ pub equal-tied : wrongSum (calling 1 tied) 0x6004 ≡ rightSum (calling 1 tied) 
 unfolding computing
 equal-tied = refl
 
--- a hard-sliced word, shortened and not zero: m=4, t=2, s=3, order 2; sent d1 01, the generator (721 in octal), whose ones stand at 0, 4, 6,
--- 7 and 8. Values of size 10, two of them wrong, at 0 and 1
+-- a hard-sliced word, shortened and not zero: m=4, t=2, s=3, order 2; sent d1 01, the generator (721 in octal), whose ones stand at 0, 4,
+-- 6, 7 and 8. Values of size 10, two of them wrong, at 0 and 1
 abbrev sliced : Call
 sliced = record { m = 4; t = 2; s = 3; order = 2; soft = values; before = lent }
   where

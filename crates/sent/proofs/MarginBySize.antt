@@ -1,6 +1,6 @@
--- Demand 3's margin by the size of the values, for r roots, fewer than there are positions. Where no wrong bit has a reliability above v and
--- no right one below it, v is not 0, and at most r/2 bits are wrong, the wrong sum is less than the right one: e wrong bits sum to at most
--- e v, and the r+1-e smallest right ones to at least (r+1-e) v. Assumes nothing.
+-- Demand 3's margin by the size of the values, for r roots, fewer than there are positions. Where no wrong bit has a reliability above v
+-- and no right one below it, v is not 0, and at most r/2 bits are wrong, the wrong sum is less than the right one: e wrong bits sum to at
+-- most e v, and the r+1-e smallest right ones to at least (r+1-e) v. Assumes nothing.
 use mathlib.Core.Path.{_≡_, refl, sym, _∙_}
 use mathlib.Core.Bool.{Bool, true, false, not}
 use mathlib.Core.List.{List}
