@@ -9,6 +9,7 @@ use Rattle.frame.proofs.RefusalLaws.{encode-known}
 use Rattle.codec.specs.Encode.{EncodeAnswers, refused, encoded}
 use Rattle.codec.specs.Read.{ReadAnswers}
 use Rattle.codec.specs.declared.Reading.{Reading}
+use Rattle.codec.proofs.CalledLaws.{answers-as-reading}
 
 pub encode-one-answer : (m t s message : ℕ) (before : List ℕ) (a b : ℕ) (after other : List ℕ)
     → EncodeAnswers m t s message before a after → EncodeAnswers m t s message before b other → (a ≡ b) × (after ≡ other)
@@ -25,12 +26,4 @@ encode-one-answer m t s message before a b after other (encoded e h u) (encoded 
 )
 
 pub read-one-answer : (m t s : ℕ) (bytes : List ℕ) (a b : Reading) → ReadAnswers m t s bytes a → ReadAnswers m t s bytes b → a ≡ b
-read-one-answer m t s bytes a b (ReadAnswers.refused n h) (ReadAnswers.refused l k) = h ∙ sym k
-read-one-answer m t s bytes a b (ReadAnswers.refused n h) (ReadAnswers.unreadable e f k) = absurd (n e)
-read-one-answer m t s bytes a b (ReadAnswers.refused n h) (ReadAnswers.taken e f k) = absurd (n e)
-read-one-answer m t s bytes a b (ReadAnswers.unreadable e f h) (ReadAnswers.refused l k) = absurd (l e)
-read-one-answer m t s bytes a b (ReadAnswers.unreadable e f h) (ReadAnswers.unreadable _ _ k) = h ∙ sym k
-read-one-answer m t s bytes a b (ReadAnswers.unreadable e f h) (ReadAnswers.taken _ g k) = absurd (f g)
-read-one-answer m t s bytes a b (ReadAnswers.taken e f h) (ReadAnswers.refused l k) = absurd (l e)
-read-one-answer m t s bytes a b (ReadAnswers.taken e f h) (ReadAnswers.unreadable _ g k) = absurd (g f)
-read-one-answer m t s bytes a b (ReadAnswers.taken e f h) (ReadAnswers.taken _ _ k) = h ∙ sym k
+read-one-answer m t s bytes a b h k = answers-as-reading m t s bytes a h ∙ sym (answers-as-reading m t s bytes b k)

@@ -1,5 +1,7 @@
 pub mod RemainderSteps
-pub mod CodecLaws
+pub mod EncodeLaws
+pub mod FaultLaws
+pub mod ReadLaws
+pub mod CalledLaws
 pub mod CodecOneAnswer
 pub mod RoundTrip
-pub mod CalledLaws

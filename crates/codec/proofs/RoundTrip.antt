@@ -73,8 +73,12 @@ module _ (m t s : ℕ) (bytes : List ℕ) (small : (i : ℕ) → getD bytes i 0 
 pub read-then-encode : (m t s message : ℕ) (bytes : List ℕ) → ((i : ℕ) → getD bytes i 0 < 256) → ReadAnswers m t s bytes (says 0 message)
     → (answer : ℕ) (after : List ℕ) → EncodeAnswers m t s message bytes answer after → (answer ≡ 0) × (after ≡ bytes)
 read-then-encode m t s message bytes small (ReadAnswers.refused n h) answer after a = absurd (n (sym (ap (λ (x : Reading). x .refusal) h)))
-read-then-encode m t s message bytes small (ReadAnswers.unreadable e f h) answer after a =
+read-then-encode m t s message bytes small (ReadAnswers.padded e f h) answer after a =
     absurd (let z : _≡_ {A = ℕ} 0 8 = ap (λ (x : Reading). x .refusal) h in omega arith)
+read-then-encode m t s message bytes small (ReadAnswers.unsent e p f h) answer after a =
+    absurd (let z : _≡_ {A = ℕ} 0 9 = ap (λ (x : Reading). x .refusal) h in omega arith)
+read-then-encode m t s message bytes small (ReadAnswers.rootless e p f h) answer after a =
+    absurd (let z : _≡_ {A = ℕ} 0 10 = ap (λ (x : Reading). x .refusal) h in omega arith)
 read-then-encode m t s message bytes small (ReadAnswers.taken e r h) answer after a =
     written-again m t s bytes small e r answer after
     (subst (λ (x : ℕ). EncodeAnswers m t s x bytes answer after) (ap (λ (x : Reading). x .message) h) a)

@@ -1,20 +1,23 @@
 -- The claims of specs/Claims, each under its name. Assumes nothing.
 use mathlib.Core.Path.{_≡_, sym, ap, ap₂, _∙_, subst}
-use Prim.Native.Nat.{ℕ, _-_, _*_, _^_, _<_}
+use Prim.Native.Nat.{ℕ, _-_, _*_, _/_, _%_, _^_, _<_}
 use mathlib.Core.Logic.{_↔_}
 use mathlib.Core.List.{List, [], _∷_}
+use native.Mathlib.Decide.{ℕ-discrete}
 use native.Mathlib.Omega.{arith}
 use Rattle.field.specs.Field.{times, inverseOf, alphaTo, lengthOf}
 use Rattle.field.specs.Laws.{Laws}
 use Rattle.field.proofs.FieldLaws.{laws}
-use Rattle.field.proofs.RingLaws.{inverse-only}
+use Rattle.field.proofs.RingLaws.{inverse-only, times-zero}
 use Rattle.codes.specs.Code.{dimensionOf, parityOf, generatorOf}
-use Rattle.codes.specs.Codeword.{Codeword}
+use Rattle.codes.specs.Codeword.{bitOf, valueAt, Codeword}
 use Rattle.codes.specs.Lagrange.{others, quotients, cell}
 use Rattle.codes.specs.Generator.{multiple, systematic}
 use Rattle.codes.specs.Claims.{GeneratorsAreRight, OneWordForEachMessage, CodewordsAreApart, PlacesFixAWord, CellsAreThePapers}
-use Rattle.codes.specs.Claims.{CellsAreShort}
+use Rattle.codes.specs.Claims.{CellsAreShort, FaultyPowersAreOdd}
+use Rattle.codes.proofs.WordLaws.{bit-lt}
 use Rattle.codes.proofs.RootLaws.{one-lt}
+use Rattle.codes.proofs.Conjugates.{at-double}
 use Rattle.codes.proofs.LagrangeLaws.{roots→lagrange, lagrange→roots}
 use Rattle.codes.proofs.ShortForm.{cell-is-short}
 use Rattle.codes.proofs.ShapeLaws.{parity-full}
@@ -68,3 +71,19 @@ cells-are-the-papers m l h R k j p =
 
 pub cells-are-short : CellsAreShort
 cells-are-short m b r l h first fit R all j o hj ho = cell-is-short m (laws m l h) b r first R all fit j o hj ho
+
+pub faulty-powers-are-odd : FaultyPowersAreOdd
+faulty-powers-are-odd m l h w r e k = go (ℕ-discrete (e % 2) 0)
+  where
+    -- an even power is twice a lower one, at which the value is 0
+    even : e % 2 ≡ 0 → valueAt m (bitOf w) e ≡ 0
+    even z =
+        let F = laws m l h in
+        let first = k .low in
+        let twice : e ≡ e / 2 * 2 = omega arith in
+        ap (valueAt m (bitOf w)) twice ∙ at-double m F (bitOf w) (bit-lt w) (e / 2)
+        ∙ ap (λ (u : ℕ). times m u u) (k .lower (e / 2) (omega arith) (omega arith)) ∙ times-zero m F 0
+
+    go : Dec (e % 2 ≡ 0) → e % 2 ≡ 1
+    go (yes z) = absurd (k .nonzero (even z))
+    go (no z) = omega arith

@@ -67,7 +67,7 @@ module _ (m : ℕ) (F : Laws m) where
   bit-square (suc (suc b)) h = absurd (omega arith)
 
   -- a binary word at a ^ 2e
-  at-double : (c : ℕ → ℕ) → ((p : ℕ) → c p < 2) → (e : ℕ) → valueAt m c (e * 2) ≡ times m (valueAt m c e) (valueAt m c e)
+  pub at-double : (c : ℕ → ℕ) → ((p : ℕ) → c p < 2) → (e : ℕ) → valueAt m c (e * 2) ≡ times m (valueAt m c e) (valueAt m c e)
   unfolding valueAt
   at-double c h e = xorsum-cong (lengthOf m) _ _ (λ p _. term p) ∙ xorsum-square (lengthOf m) (λ p. times m (c p) (alphaTo m (p * e)))
     where

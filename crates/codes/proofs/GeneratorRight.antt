@@ -45,7 +45,7 @@ multiple-lt d (suc k) q g h =
 module _ (m : ℕ) (F : Laws m) where
   open Laws F using (comm, n-pos, times-lt)
 
-  at-zero : (e : ℕ) → valueAt m (bitOf 0) e ≡ 0
+  pub at-zero : (e : ℕ) → valueAt m (bitOf 0) e ≡ 0
   unfolding valueAt
   at-zero e =
       xorsum-zero (lengthOf m) _ (λ p _. ap (λ (u : ℕ). times m u (alphaTo m (p * e))) (bit-zero p) ∙ zero-times m F (alphaTo m (p * e)))
@@ -58,7 +58,7 @@ module _ (m : ℕ) (F : Laws m) where
   at-bit-times zero g e z = at-zero e
   at-bit-times (suc b) g e z = z
 
-  at-lt : (c : ℕ → ℕ) (e : ℕ) → valueAt m c e < 2 ^ m
+  pub at-lt : (c : ℕ → ℕ) (e : ℕ) → valueAt m c e < 2 ^ m
   unfolding valueAt
   at-lt c e = xorsum-lt m (lengthOf m) _ (λ p _. times-lt (c p) (alphaTo m (p * e)))
 

@@ -1,6 +1,7 @@
 pub mod ShapeLaws
 pub mod WordLaws
 pub mod WordSteps
+pub mod LowestOne
 pub mod Pigeon
 pub mod RootLaws
 pub mod LagrangeLaws
@@ -10,6 +11,7 @@ pub mod PlacesFixWord
 pub mod PolynomialLaws
 pub mod Conjugates
 pub mod GeneratorRight
+pub mod ValueSteps
 pub mod SystematicWord
 pub mod CodewordsApart
 pub mod ClaimsShown

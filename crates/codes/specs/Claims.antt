@@ -5,15 +5,17 @@
 --   PlacesFixAWord          n - r places fix a word with r roots: the others are its Lagrange sums
 --   CellsAreThePapers         with the first root a^1 a cell is document 01's product
 --   CellsAreShort             a cell by the places outside
+--   FaultyPowersAreOdd        the lowest power at which a binary word is not zero is odd
 -- Assumes nothing.
 use mathlib.Core.Path.{_≡_}
 use mathlib.Core.Logic.{_≢_, _↔_}
 use mathlib.Core.Bool.{not}
-use Prim.Native.Nat.{ℕ, _+_, _-_, _*_, _/_, _^_, _<_, _≤_}
+use Prim.Native.Nat.{ℕ, _+_, _-_, _*_, _/_, _%_, _^_, _<_, _≤_}
 use lib.Dec.{eqb}
 use Rattle.field.specs.Below.{countWhere}
+use Rattle.field.specs.Lowest.{Lowest}
 use Rattle.field.specs.Field.{alphaTo, lengthOf}
-use Rattle.codes.specs.Codeword.{bitOf, WordOver, ZeroFrom, Codeword}
+use Rattle.codes.specs.Codeword.{bitOf, WordOver, valueAt, ZeroFrom, Codeword}
 use Rattle.codes.specs.Code.{Known, dimensionOf, parityOf, generatorOf}
 use Rattle.codes.specs.Lagrange.{AllPlaces, others, quotients, cell, lagrange, shortCell}
 use Rattle.codes.specs.Generator.{multiple, systematic}
@@ -46,3 +48,8 @@ CellsAreThePapers = (m : ℕ) → 4 ≤ m → m ≤ 6 → (R : ℕ → ℕ) (k j
 abbrev pub CellsAreShort : Type 0
 CellsAreShort = (m b r : ℕ) → 4 ≤ m → m ≤ 6 → b ≤ 1 → r ≤ lengthOf m → (R : ℕ → ℕ) → AllPlaces m R → (j o : ℕ) → j < lengthOf m - r → o < r
     → cell m (1 - b) R (lengthOf m - r) j (R (lengthOf m - r + o)) ≡ shortCell m b r (λ v. R (lengthOf m - r + v)) o (R j)
+
+-- Req 02: "the lowest power at which the word is not zero", of any binary word and however many powers from a^1 on are looked at. Its
+-- value at a^(2e) is the square of that at a^e
+abbrev pub FaultyPowersAreOdd : Type 0
+FaultyPowersAreOdd = (m : ℕ) → 4 ≤ m → m ≤ 6 → (w r e : ℕ) → Lowest 1 r (valueAt m (bitOf w)) e → e % 2 ≡ 1

@@ -2,16 +2,22 @@
 use mathlib.Core.Path.{_≡_, refl, sym, ap, _∙_, subst}
 use mathlib.Core.Logic.{inl, inr}
 use mathlib.Core.List.{List}
-use Prim.Native.Nat.{ℕ, _*_}
+use Prim.Native.Nat.{ℕ, _-_, _*_}
 use native.Mathlib.Omega.{arith}
 use lib.ListN.{length}
+use Rattle.field.specs.Field.{lengthOf}
+use Rattle.field.specs.Lowest.{Lowest}
+use Rattle.field.proofs.LowestLaws.{lowest-most}
+use Rattle.codes.specs.Codeword.{bitOf, valueAt}
+use Rattle.codes.proofs.WordLaws.{bit-lt}
 use Rattle.codes.proofs.SystematicWord.{codeword-high}
 use Rattle.soft.specs.Candidate.{Candidate}
+use Rattle.words.specs.Packing.{wordIn}
 use Rattle.frame.specs.Refusal.{encodeRefusal, readRefusal}
 use Rattle.frame.proofs.RefusalLaws.{encode-known}
 use Rattle.codec.specs.Encode.{EncodeAnswers, refused, encoded}
 use Rattle.codec.specs.Read.{ReadAnswers}
-use Rattle.codec.specs.GivenBack.{says, Encoding}
+use Rattle.codec.specs.GivenBack.{says, faultAt, Encoding}
 use Rattle.codec.specs.declared.Reading.{Reading}
 use Rattle.codec.proofs.RoundTrip.{encode-then-read}
 use Rattle.codec.proofs.CalledLaws.{encoding-answers, reading-answers}
@@ -24,6 +30,7 @@ use Rattle.demands.specs.Demand1.{EncodeFixed, ReadFixed, DecodeFixed, D
 use Rattle.demands.specs.Decodes.{Among, Decodes}
 use Rattle.demands.specs.Demand2.{Encodes, Reads, Demand2}
 use Rattle.demands.specs.Ours.{ours}
+use Rattle.demands.proofs.SaysWhereShown.{is-taken, is-padded, is-unsent, is-rootless, unsent-lowest, root-lowest}
 
 module _ (m t s message : ℕ) (before : List ℕ) (y : Encoding) where
   encode-fixed : EncodeAnswers m t s message before (y .answer) (y .after) → EncodeFixed m t s message before y
@@ -43,20 +50,44 @@ module _ (m t s message : ℕ) (before : List ℕ) (y : Encoding) where
   }
 
 module _ (m t s : ℕ) (bytes : List ℕ) (y : Reading) where
+  -- the place that a refusal gives is the answer's own
+  at-fault : (N p : ℕ) → y ≡ faultAt N p → y ≡ faultAt N (y .at)
+  at-fault N p h = h ∙ ap (faultAt N) (sym (ap (λ (z : Reading). z .at) h))
+
+  at-place : (P : ℕ → Type 0) (N p : ℕ) → y ≡ faultAt N p → P p → P (y .at)
+  at-place P N p h = subst P (sym (ap (λ (z : Reading). z .at) h))
+
   read-fixed : ReadAnswers m t s bytes y → ReadFixed m t s bytes y
   read-fixed (ReadAnswers.refused n h) = record { refused = λ _. h; passed = λ e. absurd (n e) }
-  read-fixed (ReadAnswers.unreadable e f h) = record { refused = λ n. absurd (n e); passed = λ _. inr h }
+  read-fixed (ReadAnswers.padded e f h) = record { refused = λ n. absurd (n e); passed = λ _. inr (inl h) }
+  read-fixed (ReadAnswers.unsent e p f h) = record { refused = λ n. absurd (n e); passed = λ _. inr (inr (inl (at-fault 9 p h))) }
+  read-fixed (ReadAnswers.rootless e p f h) = record { refused = λ n. absurd (n e); passed = λ _. inr (inr (inr (at-fault 10 p h))) }
   read-fixed (ReadAnswers.taken e r h) = record { refused = λ n. absurd (n e); passed = λ _. inl (ap (λ (z : Reading). z .refusal) h) }
 
+  -- a word with a fault has a lowest, and that is read's only answer (proofs/SaysWhereShown)
   read-reads : readRefusal m t s (length bytes) ≡ 0 → ReadAnswers m t s bytes y → Reads m t s bytes y
-  read-reads e (ReadAnswers.refused n h) = absurd (n e)
-  read-reads e (ReadAnswers.unreadable _ f h) = record {
-    some = λ message k. absurd (f (record { codeword = k .codeword; unsent = k .unsent }));
-    none = λ _. h;
-  }
-  read-reads e (ReadAnswers.taken _ r h) = record {
-    some = λ message k. h ∙ ap (says 0) (k .high);
-    none = λ n. absurd (n _ (record { codeword = r .codeword; high = refl; unsent = r .unsent }));
+  read-reads e a = record {
+    some = λ message k. is-taken m t s bytes y e a (record { codeword = k .codeword; unsent = k .unsent }) ∙ ap (says 0) (k .high);
+    pad = is-padded m t s bytes y e a;
+    unsent = λ z p l h o.
+        let k = unsent-lowest m t s bytes e z p l h o in
+        let q = is-unsent m t s bytes y e a _ k in
+        let u = at-place (Lowest (lengthOf m - s) s (bitOf (wordIn m bytes))) 9 _ q (k .lowest) in
+        let some = u .nonzero in (
+          at-fault 9 _ q,
+          u .low,
+          omega (arith, bit-lt (wordIn m bytes) (y .at)),
+          omega (arith, lowest-most (bitOf (wordIn m bytes)) (lengthOf m - s) s (y .at) u p l (λ f. omega arith)),
+        );
+    root = λ z i l h n.
+        let k = root-lowest m t s bytes z i l h n in
+        let q = is-rootless m t s bytes y e a _ k in
+        let u = at-place (Lowest 1 (2 * t) (valueAt m (bitOf (wordIn m bytes)))) 10 _ q (k .lowest) in (
+          at-fault 10 _ q,
+          u .low,
+          u .nonzero,
+          omega (arith, lowest-most (valueAt m (bitOf (wordIn m bytes))) 1 (2 * t) (y .at) u i l n),
+        );
   }
 
 module _ (c : Call) where

@@ -1,17 +1,28 @@
 -- What meets demands 1 and 2 keeps the contracts, and so gives what ours give. Which case of a contract an input has is read off ours.
 -- Assumes nothing.
 use mathlib.Core.Path.{_≡_, refl, ap}
+use mathlib.Core.Logic.{_≢_}
 use mathlib.Core.List.{List}
-use Prim.Native.Nat.{ℕ}
+use Prim.Native.Nat.{ℕ, _+_, _-_, _*_, _<_, _≤_}
 use native.Mathlib.Omega.{arith}
+use lib.ListN.{length}
+use Rattle.field.specs.Field.{lengthOf}
+use Rattle.field.proofs.LowestLaws.{lowest-by}
+use Rattle.codes.specs.Codeword.{bitOf, valueAt}
+use Rattle.codes.proofs.ShapeLaws.{parity-full}
+use Rattle.codes.proofs.WordLaws.{bit-lt}
+use Rattle.words.specs.Packing.{wordIn}
+use Rattle.frame.specs.Refusal.{readRefusal}
+use Rattle.frame.proofs.RefusalLaws.{read-passed}
 use Rattle.codec.specs.Encode.{EncodeAnswers, refused, encoded}
-use Rattle.codec.specs.Read.{ReadAnswers}
+use Rattle.codec.specs.Read.{UnsentFault, RootFault, ReadAnswers}
 use Rattle.codec.proofs.CodecOneAnswer.{encode-one-answer, read-one-answer}
 use Rattle.decode.specs.Decode.{Refused, DecodeAnswers}
 use Rattle.decode.specs.Call.{Call, Result, checksOf, refusedWith}
 use Rattle.decode.specs.Called.{resultOf}
 use Rattle.decode.proofs.CalledLaws.{Answers, result-answers, answers-as-result}
-use Rattle.codec.specs.GivenBack.{Encoding}
+use Rattle.codec.specs.GivenBack.{faultAt, Encoding}
+use Rattle.codec.specs.declared.Reading.{Reading}
 use Rattle.demands.specs.Calls.{Calls}
 use Rattle.demands.specs.Contracts.{Contracts}
 use Rattle.demands.specs.Demand1.{Demand1}
@@ -71,11 +82,58 @@ module _ (x : Calls) (first : Demand1 x) (second : Demand2 x) where
         writes = ap (λ (y : Encoding). y .after) (u .gives);
       })
 
+  -- of a word with an unsent bit, or a root missing, the demand gives the lowest
+  module _ (m t s : ℕ) (bytes : List ℕ) (e : readRefusal m t s (length bytes) ≡ 0) where
+    abbrev n : ℕ
+    n = lengthOf m
+
+    abbrev w : ℕ
+    w = wordIn m bytes
+
+    abbrev y : Reading
+    y = x .read m t s bytes
+
+    short : s ≤ n
+    short = let k = read-passed m t s (length bytes) e in let l = k .short in omega (arith, parity-full m t (k .known))
+
+    unsent-at : bitOf w n ≡ 0 → (p : ℕ) → n - s ≤ p → p < n - s + s → bitOf w p ≢ 0
+        → (y ≡ faultAt 9 (y .at)) × (n - s ≤ y .at) × (bitOf w (y .at) ≡ 1) × (y .at ≤ p)
+    unsent-at z p l h f =
+        let r = second .read m t s bytes e .unsent z p l (omega (arith, short)) (omega (arith, bit-lt w p)) in
+        (r .0, r .1, r .2, omega (arith, r .3))
+
+    unsent-keeps : (p : ℕ) → UnsentFault m s w p → ReadAnswers m t s bytes y
+    unsent-keeps p u =
+        let k = u .lowest in
+        let h = k .high in
+        let found = unsent-at (u .pad) p (k .low) h (k .nonzero) in
+        ReadAnswers.unsent e _ (record {
+          pad = u .pad;
+          lowest = lowest-by (bitOf w) (n - s) s (y .at) (found .1) (omega (arith, found .3)) (λ z. omega (arith, found .2))
+              (λ i l h f. unsent-at (u .pad) i l h f .3);
+        }) (found .0)
+
+    root-at : ((p : ℕ) → n - s ≤ p → bitOf w p ≡ 0) → (i : ℕ) → 1 ≤ i → i < 1 + 2 * t → valueAt m (bitOf w) i ≢ 0
+        → (y ≡ faultAt 10 (y .at)) × (1 ≤ y .at) × (valueAt m (bitOf w) (y .at) ≢ 0) × (y .at ≤ i)
+    root-at z i l h f = let r = second .read m t s bytes e .root z i l (omega arith) f in (r .0, r .1, r .2, omega (arith, r .3))
+
+    root-keeps : (i : ℕ) → RootFault m t s w i → ReadAnswers m t s bytes y
+    root-keeps i u =
+        let k = u .lowest in
+        let h = k .high in
+        let found = root-at (u .clear) i (k .low) h (k .nonzero) in
+        ReadAnswers.rootless e _ (record {
+          clear = u .clear;
+          lowest = lowest-by (valueAt m (bitOf w)) 1 (2 * t) (y .at) (found .1) (omega (arith, found .3)) (found .2)
+              (λ j l h f. root-at (u .clear) j l h f .3);
+        }) (found .0)
+
   read-keeps : (m t s : ℕ) (bytes : List ℕ) → ReadAnswers m t s bytes (readingOf m t s bytes)
       → ReadAnswers m t s bytes (x .read m t s bytes)
   read-keeps m t s bytes (ReadAnswers.refused n _) = ReadAnswers.refused n (first .read m t s bytes .refused n)
-  read-keeps m t s bytes (ReadAnswers.unreadable e f _) =
-      ReadAnswers.unreadable e f (second .read m t s bytes e .none (λ message k. f (record { codeword = k .codeword; unsent = k .unsent })))
+  read-keeps m t s bytes (ReadAnswers.padded e u _) = ReadAnswers.padded e u (second .read m t s bytes e .pad u)
+  read-keeps m t s bytes (ReadAnswers.unsent e p u _) = unsent-keeps m t s bytes e p u
+  read-keeps m t s bytes (ReadAnswers.rootless e i u _) = root-keeps m t s bytes e i u
   read-keeps m t s bytes (ReadAnswers.taken e r _) =
       ReadAnswers.taken e r (second .read m t s bytes e .some _ (record { codeword = r .codeword; high = refl; unsent = r .unsent }))
 

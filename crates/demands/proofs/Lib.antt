@@ -1,3 +1,4 @@
+pub mod SaysWhereShown
 pub mod ContractsMeetDemands
 pub mod DemandsAreContracts
 pub mod SecondGivesThird

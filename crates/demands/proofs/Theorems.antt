@@ -6,7 +6,7 @@ use lib.IntN.{ℤ}
 use Rattle.field.specs.Laws.{FieldsAreLawful}
 use Rattle.field.proofs.FieldLaws.{laws}
 use Rattle.codes.specs.Claims.{GeneratorsAreRight, OneWordForEachMessage, CodewordsAreApart, PlacesFixAWord, CellsAreThePapers}
-use Rattle.codes.specs.Claims.{CellsAreShort}
+use Rattle.codes.specs.Claims.{CellsAreShort, FaultyPowersAreOdd}
 use Rattle.codes.proofs.ClaimsShown as codes
 use Rattle.soft.specs.Claims.{SortedByRank, FirstAreReliable, DistancesAreSmall}
 use Rattle.soft.proofs.OrderLaws as order
@@ -33,6 +33,8 @@ use Rattle.export.proofs.malligovu_encode.Statement as c-encode-stated
 use Rattle.export.proofs.malligovu_encode.Met as c-encode-met
 use Rattle.export.proofs.malligovu_read.Statement as c-read-stated
 use Rattle.export.proofs.malligovu_read.Met as c-read-met
+use Rattle.export.proofs.malligovu_fault.Statement as c-fault-stated
+use Rattle.export.proofs.malligovu_fault.Met as c-fault-met
 use Rattle.export.proofs.malligovu_decode.Statement as c-decode-stated
 use Rattle.export.proofs.malligovu_decode.Met as c-decode-met
 use Rattle.stream.proofs.step.Statement as step-stated
@@ -49,11 +51,13 @@ use Rattle.demands.specs.Rejected.{WrongVersionsAreRejected}
 use Rattle.demands.specs.Wrong.{WrongVersionsExist}
 use Rattle.settled.specs.Settled.{settled, Each}
 use Rattle.demands.specs.OneAnswer.{EncodeHasOneAnswer, ReadHasOneAnswer, DecodeHasOneAnswer, DecodeTellsOneAnswer}
-use Rattle.demands.specs.OneAnswer.{ReadTellsOneAnswer}
+use Rattle.demands.specs.OneAnswer.{ReadTellsOneAnswer, FaultTellsOneAnswer}
 use Rattle.demands.specs.Packed.{BitsArePacked}
 use Rattle.demands.specs.BringsBack.{ReadBringsBack, EncodeWritesAgain}
+use Rattle.demands.specs.SaysWhere.{ReadSaysWhere, ReadableWhereNoFault, FaultGoesWithRead}
 use Rattle.demands.proofs.ContractsMeetDemands.{meets-first, meets-second, ours-answer}
 use Rattle.demands.proofs.DemandsAreContracts.{contracts-kept, encode-as-ours, read-as-ours, decode-as-ours}
+use Rattle.demands.proofs.SaysWhereShown as where-shown
 use Rattle.demands.proofs.SecondGivesThird as third
 use Rattle.demands.proofs.HardSlicedRead as hard-sliced
 use Rattle.demands.proofs.CompiledCalls as compiled
@@ -129,6 +133,9 @@ c-encode-meets-its-contract = c-encode-met.met
 pub c-read-meets-its-contract : {M : Type 1} → c-read-stated.statement M
 c-read-meets-its-contract = c-read-met.met
 
+pub c-fault-meets-its-contract : {M : Type 1} → c-fault-stated.statement M
+c-fault-meets-its-contract = c-fault-met.met
+
 pub c-decode-meets-its-contract : {M : Type 1} → c-decode-stated.statement M
 c-decode-meets-its-contract = c-decode-met.met
 
@@ -156,6 +163,9 @@ cells-are-the-papers = codes.cells-are-the-papers
 
 pub cells-are-short : CellsAreShort
 cells-are-short = codes.cells-are-short
+
+pub faulty-powers-are-odd : FaultyPowersAreOdd
+faulty-powers-are-odd = codes.faulty-powers-are-odd
 
 -- the order of positions, and distances
 pub sorted-by-rank : SortedByRank
@@ -219,6 +229,18 @@ decode-tells-one-answer = told.decode-told-one
 
 pub read-tells-one-answer : ReadTellsOneAnswer
 read-tells-one-answer = told.read-told-one
+
+pub fault-tells-one-answer : FaultTellsOneAnswer
+fault-tells-one-answer = told.fault-told-one
+
+pub read-says-where : ReadSaysWhere
+read-says-where = where-shown.read-says-where
+
+pub readable-where-no-fault : ReadableWhereNoFault
+readable-where-no-fault = where-shown.readable-where-no-fault
+
+pub fault-goes-with-read : FaultGoesWithRead
+fault-goes-with-read = where-shown.fault-goes-with-read
 
 pub read-brings-back : ReadBringsBack
 read-brings-back = trip.encode-then-read

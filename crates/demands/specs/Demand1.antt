@@ -11,7 +11,7 @@ use mathlib.Core.List.{List}
 use Prim.Native.Nat.{ℕ}
 use lib.ListN.{length}
 use Rattle.frame.specs.Refusal.{encodeRefusal, readRefusal}
-use Rattle.codec.specs.GivenBack.{says, Encoding}
+use Rattle.codec.specs.GivenBack.{says, faultAt, Encoding}
 use Rattle.codec.specs.declared.Reading.{Reading}
 use Rattle.decode.specs.Call.{Call, Result, checksOf, refusedWith}
 use Rattle.demands.specs.Calls.{Calls}
@@ -22,10 +22,11 @@ pub record EncodeFixed (m t s message : ℕ) (before : List ℕ) (y : Encoding) 
       → y ≡ record { answer = encodeRefusal m t s message (length before); after = before }
   pub passed : encodeRefusal m t s message (length before) ≡ 0 → y .answer ≡ 0
 
--- where no check is met, read succeeds or refuses with 8
+-- where no check is met, read succeeds or refuses the word: with 8, with 9 and its position, or with 10 and its power (Req 02)
 pub record ReadFixed (m t s : ℕ) (bytes : List ℕ) (y : Reading) : Type 0 where
   pub refused : readRefusal m t s (length bytes) ≢ 0 → y ≡ says (readRefusal m t s (length bytes)) 0
-  pub passed : readRefusal m t s (length bytes) ≡ 0 → (y .refusal ≡ 0) ⊎ (y ≡ says 8 0)
+  pub passed : readRefusal m t s (length bytes) ≡ 0
+      → (y .refusal ≡ 0) ⊎ ((y ≡ says 8 0) ⊎ ((y ≡ faultAt 9 (y .at)) ⊎ (y ≡ faultAt 10 (y .at))))
 
 -- where no check is met, decode succeeds or refuses with 6
 pub record DecodeFixed (c : Call) (y : Result) : Type 0 where

@@ -5,15 +5,16 @@
 --   Demand2 x                the demand
 -- Assumes nothing.
 use mathlib.Core.Path.{_≡_}
+use mathlib.Core.Logic.{_≢_}
 use mathlib.Core.List.{List}
-use Prim.Native.Nat.{ℕ, _-_, _/_, _^_, _<_}
+use Prim.Native.Nat.{ℕ, _-_, _*_, _/_, _^_, _<_, _≤_}
 use lib.ListN.{length}
 use Rattle.field.specs.Field.{lengthOf}
 use Rattle.codes.specs.Code.{parityOf}
-use Rattle.codes.specs.Codeword.{Codeword}
+use Rattle.codes.specs.Codeword.{bitOf, valueAt, Codeword}
 use Rattle.words.specs.Packing.{written, wordIn}
 use Rattle.frame.specs.Refusal.{encodeRefusal, readRefusal}
-use Rattle.codec.specs.GivenBack.{says, Encoding}
+use Rattle.codec.specs.GivenBack.{says, faultAt, Encoding}
 use Rattle.codec.specs.declared.Reading.{Reading}
 use Rattle.decode.specs.Call.{Call, checksOf}
 use Rattle.demands.specs.Calls.{Calls}
@@ -33,10 +34,19 @@ pub record Encodes (m t s message : ℕ) (before : List ℕ) (y : Encoding) : Ty
   pub one : (v : ℕ) → WordOf m t s message v → v ≡ word
   pub gives : y ≡ record { answer = 0; after = written m word before }
 
--- the message whose word stands in the first W bytes; 8 where that is the word of no message
+-- the message whose word stands in the first W bytes; where that is the word of no message, "8 pad bit, then 9 unsent bit, then 10 root", with
+-- "the lowest unsent position at fault, or the lowest power at which the word is not zero" (Req 02): one that is at fault, and at most any
+-- other that is. Bit n is the pad bit, and the unsent positions are n-s, .., n-1
 pub record Reads (m t s : ℕ) (bytes : List ℕ) (y : Reading) : Type 0 where
   pub some : (message : ℕ) → WordOf m t s message (wordIn m bytes) → y ≡ says 0 message
-  pub none : ((message : ℕ) → ¬ WordOf m t s message (wordIn m bytes)) → y ≡ says 8 0
+  pub pad : bitOf (wordIn m bytes) (lengthOf m) ≡ 1 → y ≡ says 8 0
+  pub unsent : bitOf (wordIn m bytes) (lengthOf m) ≡ 0 → (p : ℕ) → lengthOf m - s ≤ p → p < lengthOf m → bitOf (wordIn m bytes) p ≡ 1
+      → (y ≡ faultAt 9 (y .at)) × (lengthOf m - s ≤ y .at) × (bitOf (wordIn m bytes) (y .at) ≡ 1)
+      × (y .at ≤ p)
+  pub root : ((p : ℕ) → lengthOf m - s ≤ p → bitOf (wordIn m bytes) p ≡ 0)
+      → (e : ℕ) → 1 ≤ e → e ≤ 2 * t → valueAt m (bitOf (wordIn m bytes)) e ≢ 0
+      → (y ≡ faultAt 10 (y .at)) × (1 ≤ y .at) × (valueAt m (bitOf (wordIn m bytes)) (y .at) ≢ 0)
+      × (y .at ≤ e)
 
 pub record Demand2 (x : Calls) : Type 0 where
   pub encode : (m t s message : ℕ) (before : List ℕ) → encodeRefusal m t s message (length before) ≡ 0

@@ -13,3 +13,4 @@ pub mod Wrong
 pub mod Packed
 pub mod OneAnswer
 pub mod BringsBack
+pub mod SaysWhere

@@ -9,7 +9,7 @@ use Rattle.codec.specs.Read.{ReadAnswers}
 use Rattle.codec.specs.declared.Reading.{Reading}
 use Rattle.decode.specs.Decode.{DecodeAnswers}
 use Rattle.decode.specs.declared.Decoding.{Decoding}
-use Rattle.export.specs.Told.{DecodeTold, ReadTold}
+use Rattle.export.specs.Told.{DecodeTold, ReadTold, FaultTold}
 
 abbrev pub EncodeHasOneAnswer : Type 0
 EncodeHasOneAnswer = (m t s message : ℕ) (before : List ℕ) (a b : ℕ) (after other : List ℕ)
@@ -31,3 +31,6 @@ DecodeTellsOneAnswer = (m t s order : ℕ) (soft : List ℤ) (before figures : L
 abbrev pub ReadTellsOneAnswer : Type 0
 ReadTellsOneAnswer = (m t s : ℕ) (bytes place : List ℕ) (a b : ℕ) (told tale : List ℕ)
     → ReadTold m t s bytes place a told → ReadTold m t s bytes place b tale → (a ≡ b) × (told ≡ tale)
+
+abbrev pub FaultTellsOneAnswer : Type 0
+FaultTellsOneAnswer = (m t s : ℕ) (bytes : List ℕ) (a b : ℕ) → FaultTold m t s bytes a → FaultTold m t s bytes b → a ≡ b

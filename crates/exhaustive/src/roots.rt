@@ -10,7 +10,7 @@ fn times_a(x: u64) -> u64 {
 }
 
 // a^0, a^1, .., a^14.
-fn powers() -> [u64; 15] {
+pub fn powers() -> [u64; 15] {
     let mut powers = [1u64; 15];
     let mut x = 1;
     let mut e = 0;
@@ -37,16 +37,16 @@ fn value_at(powers: &[u64; 15], w: u64, e: usize) -> u64 {
     sum
 }
 
-// Whether a word is zero at a^1, a^2, .., a^(2t).
-fn is_codeword(powers: &[u64; 15], w: u64, t: u16) -> bool {
+// The lowest of the powers 1, 2, .., 2t at which a word is not zero; 0 where it is zero at all of them, and so a codeword.
+pub fn lowest_power(powers: &[u64; 15], w: u64, t: u16) -> usize {
     let mut e = 1;
     while e <= 2 * (t as usize) {
         if value_at(powers, w, e) != 0 {
-            return false;
+            return e;
         }
         e += 1;
     }
-    true
+    0
 }
 
 // Puts a word at a place of the list, where it has such a place, and gives the next place.
@@ -69,7 +69,7 @@ pub fn list_codewords(t: u16, list: &mut [u64]) -> usize
     let mut count = 0;
     let mut w = 0;
     while w < 32768 {
-        if is_codeword(&powers, w, t) {
+        if lowest_power(&powers, w, t) == 0 {
             count = put(list, count, w);
         }
         w += 1;

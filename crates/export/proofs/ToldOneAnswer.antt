@@ -7,7 +7,7 @@ use Rattle.codec.specs.declared.Reading.{Reading}
 use Rattle.codec.proofs.CodecOneAnswer.{read-one-answer}
 use Rattle.decode.specs.declared.Decoding.{Decoding}
 use Rattle.decode.proofs.DecodeOneAnswer.{decode-one-answer}
-use Rattle.export.specs.Told.{told, DecodeTold, ReadTold}
+use Rattle.export.specs.Told.{told, DecodeTold, ReadTold, FaultTold}
 
 pub decode-told-one : (m t s order : ℕ) (soft : List ℤ) (before figures : List ℕ) (a b : ℕ) (after other left remains : List ℕ)
     → DecodeTold m t s order soft before figures a after left → DecodeTold m t s order soft before figures b other remains
@@ -30,3 +30,7 @@ read-told-one m t s word message a b left remains h k =
       h .tells ∙ ap (λ (x : Reading). told a (x .message ∷ []) message) same ∙ ap (λ (N : ℕ). told N (k .answer .message ∷ []) message) e
           ∙ sym (k .tells),
     )
+
+pub fault-told-one : (m t s : ℕ) (word : List ℕ) (a b : ℕ) → FaultTold m t s word a → FaultTold m t s word b → a ≡ b
+fault-told-one m t s word a b h k =
+    h .place ∙ ap (λ (x : Reading). x .at) (read-one-answer m t s word (h .answer) (k .answer) (h .answers) (k .answers)) ∙ sym (k .place)

@@ -3,6 +3,7 @@
 --   placed numbers before     the lent memory with the numbers over its first places, as many as it has room for
 --   told N numbers before     the same where the number N is 0; else the lent memory as it was
 --   ReadTold, DecodeTold      the contract of the call of that name; `left` is what stands in the lent memory afterwards
+--   FaultTold                 the contract of the call that tells what read's refusal says beside its number; it writes nothing
 -- Assumes nothing.
 use mathlib.Core.Path.{_≡_}
 use mathlib.Core.List.{List, [], _∷_}
@@ -30,6 +31,12 @@ pub record ReadTold (m t s : ℕ) (word message : List ℕ) (result : ℕ) (left
   pub answers : ReadAnswers m t s word answer
   pub refusal : result ≡ answer .refusal
   pub tells : left ≡ told result (answer .message ∷ []) message
+
+-- "give the lowest unsent position at fault, or the lowest power at which the word is not zero" (Req 02); 0 where read's answer has no place
+pub record FaultTold (m t s : ℕ) (word : List ℕ) (result : ℕ) : Type 0 where
+  pub answer : Reading
+  pub answers : ReadAnswers m t s word answer
+  pub place : result ≡ answer .at
 
 -- "The answer: the word, its soft distance, .. (flips), and the number of candidates that exist."
 pub record DecodeTold (m t s order : ℕ) (soft : List ℤ) (before figures : List ℕ) (result : ℕ) (after left : List ℕ) : Type 0 where

@@ -1,9 +1,11 @@
-// The three calls for C hosts: numbers and lent memory in, a refusal's number out.
+// The calls for C hosts: numbers and lent memory in, a refusal's number out, and what a refusal says beside its number from a call of its
+// own that writes nothing.
 ghost use mathlib.Core.Path.{_≡_};
 ghost use mathlib.Core.List.{[], _∷_};
 ghost use lib.ListN.{set};
 ghost use Rattle.codec.specs.Encode.{EncodeAnswers};
-ghost use Rattle.export.specs.Told.{told, DecodeTold, ReadTold};
+ghost use Rattle.codec.specs.Read.{ReadAnswers};
+ghost use Rattle.export.specs.Told.{told, DecodeTold, ReadTold, FaultTold};
 ghost use Rattle.export.specs.Inner.Narrow.{Narrows};
 use frame::TAKEN;
 
@@ -61,14 +63,29 @@ pub extern "C" fn malligovu_encode(m: u32, t: u32, s: u32, message: u64, word: &
     codec::encode(narrow(m), narrow(t), narrow(s), message, word) as u32
 }
 
+fn reading_of(m: u32, t: u32, s: u32, word: &[u8]) -> codec::Reading
+    ensures { λ r. ⌜ ReadAnswers m t s (now (word .entry)) r ⌝ }
+{
+    codec::read(narrow(m), narrow(t), narrow(s), word)
+}
+
 // Reads the word, and tells its message.
 #[no_mangle]
 pub extern "C" fn malligovu_read(m: u32, t: u32, s: u32, word: &[u8], message: &mut [u64]) -> u32
     ensures { λ r. ⌜ ReadTold m t s (now (word .entry)) (now (message .entry)) r (now (message .exit)) ⌝ }
 {
-    let reading = codec::read(narrow(m), narrow(t), narrow(s), word);
+    let reading = reading_of(m, t, s, word);
     tell_message(reading.refusal, reading.message, message);
     reading.refusal as u32
+}
+
+// Tells where read finds its fault, for the same arguments: with 9 the position, with 10 the power, and else 0.
+#[no_mangle]
+pub extern "C" fn malligovu_fault(m: u32, t: u32, s: u32, word: &[u8]) -> u32
+    ensures { λ r. ⌜ FaultTold m t s (now (word .entry)) r ⌝ }
+{
+    let reading = reading_of(m, t, s, word);
+    reading.at as u32
 }
 
 // Decodes the soft values into the word, and tells of it in the figures.

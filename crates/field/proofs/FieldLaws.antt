@@ -96,12 +96,14 @@ module _ (m : ℕ) where
     unfolding times
     mul-up x y h = ap (scan m x) (mod-eq-of-lt (step-lt y)) ∙ shift-alpha m m x y ∙ ap (λ (u : ℕ). up (scan m x u)) (sym (mod-eq-of-lt h))
 
+    mul-next : (i y : ℕ) → up (mul (pow i) y) ≡ mul (pow (suc i)) y
+    unfolding alphaTo
+    mul-next i y = ap up (mul-comm (pow i) y) ∙ sym (mul-up y (pow i) (pow-lt i)) ∙ mul-comm y (up (pow i))
+
     pow-add : (i j : ℕ) → pow (i + j) ≡ mul (pow i) (pow j)
     unfolding alphaTo
     pow-add zero j = ap pow (zero-add j) ∙ sym (mul-comm 1 (pow j) ∙ mul-one (pow j) (pow-lt j))
-    pow-add (suc i) j =
-        ap pow (suc-add i j) ∙ ap up (pow-add i j ∙ mul-comm (pow i) (pow j)) ∙ sym (mul-up (pow j) (pow i) (pow-lt i))
-        ∙ mul-comm (pow j) (up (pow i))
+    pow-add (suc i) j = ap pow (suc-add i j) ∙ ap up (pow-add i j) ∙ mul-next i (pow j)
 
     inverted : (x : ℕ) → x < 2 ^ m → x ≢ 0 → mul x (inverseOf m x) ≡ 1
     inverted zero h ne = absurd (ne refl)
@@ -165,3 +167,8 @@ laws m l h = subst Laws (omega arith) (lawful (4 + (m - 4)) (tests (m - 4) (omeg
 
 pub alpha-lt : (m y : ℕ) → 4 ≤ m → m ≤ 6 → timesAlpha m y < 2 ^ m
 alpha-lt m y l h = subst (λ (x : ℕ). timesAlpha x y < 2 ^ x) (omega arith) (step-lt (4 + (m - 4)) (tests (m - 4) (omega arith)) y)
+
+pub power-next : (m i y : ℕ) → 4 ≤ m → m ≤ 6 → timesAlpha m (times m (alphaTo m i) y) ≡ times m (alphaTo m (suc i)) y
+power-next m i y l h =
+    subst (λ (k : ℕ). timesAlpha k (times k (alphaTo k i) y) ≡ times k (alphaTo k (suc i)) y) (omega arith)
+    (mul-next (4 + (m - 4)) (tests (m - 4) (omega arith)) i y)

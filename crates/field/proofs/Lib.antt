@@ -1,4 +1,5 @@
 pub mod TestLaws
+pub mod LowestLaws
 pub mod TotalLaws
 pub mod XorLaws
 pub mod XorSumLaws

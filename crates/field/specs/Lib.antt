@@ -1,3 +1,4 @@
 pub mod Below
+pub mod Lowest
 pub mod Field
 pub mod Laws

@@ -1,6 +1,6 @@
 -- What each call says no to before it looks at a word (document 01, "What each call says no to"), over numbers: `room` is the
 -- length of the lent buffer, `values` the count of soft values. 0 is no refusal, 1 an unknown code, 2 s too large, 3 the order,
--- 4 the count, 5 the buffer, 7 the message; 6, no candidate, and 8, a word not to be read, speak of words and are not here.
+-- 4 the count, 5 the buffer, 7 the message; 6, no candidate, and 8, 9 and 10, a word not to be read, speak of words and are not here.
 --   Check            a row of the table: whether it is met, and its number; the rows are unknownCode to largeMessage
 --   firstMet         the number of the first of a list that is met, 0 where none is
 --   codeRefusal      of the rows with which every call begins; headerRefusal: of those that a header decides; encodeRefusal,
@@ -53,7 +53,8 @@ codeRefusal m t s = firstMet (unknownCode m t ∷ tooShort m t s ∷ [])
 unfoldable pub headerRefusal : ℕ → ℕ → ℕ → ℕ → ℕ
 headerRefusal m t s order = firstMet (unknownCode m t ∷ tooShort m t s ∷ highOrder order ∷ [])
 
--- "in this order: encode 1, 2, 7, 5; decode 1, 2, 3, 4, 5, 6; read 1, 2, 5, 8"
+-- "in this order: encode 1, 2, 7, 5; decode 1, 2, 3, 4, 5, 6; read 1, 2, 5", and then of the word "8 pad bit, then 9 unsent bit, then 10
+-- root" (Req 02)
 unfoldable pub encodeRefusal : ℕ → ℕ → ℕ → ℕ → ℕ → ℕ
 encodeRefusal m t s message room = firstMet (unknownCode m t ∷ tooShort m t s ∷ largeMessage m t s message ∷ smallBuffer m room ∷ [])
 

@@ -30,8 +30,12 @@ pub const NO_CANDIDATE: u8 = 6;
 
 pub const LARGE_MESSAGE: u8 = 7;
 
-// The reader's own: no codeword, or a pad bit or an unsent bit is 1.
-pub const UNREADABLE: u8 = 8;
+// The reader's own: the pad bit is 1; an unsent bit is 1; the word is not zero at a root.
+pub const PAD_BIT: u8 = 8;
+
+pub const UNSENT_BIT: u8 = 9;
+
+pub const MISSING_ROOT: u8 = 10;
 
 // The first of two numbers that is a refusal's.
 fn first(a: u8, b: u8) -> u8
@@ -136,7 +140,7 @@ pub fn encode_refusal(m: u16, t: u16, s: u16, message: u64, room: usize) -> u8
     first(large, small)
 }
 
-// 1, 2, 5; 8 is the reader's own.
+// 1, 2, 5; 8, 9 and 10 are the reader's own.
 pub fn read_refusal(m: u16, t: u16, s: u16, room: usize) -> u8
     ensures { λ r. ⌜ r ≡ readRefusal m t s room ⌝ }
 {

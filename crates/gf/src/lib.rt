@@ -1,5 +1,5 @@
 // Field arithmetic on elements of the fields of 2^m elements, m = 4, 5, 6 (document 01, "Fields and codes"): product, inverse and power.
-// No call uses it yet: decode divides by subtracting exponents. The reader of Req 02 will want the product and the power.
+// read multiplies by powers of a; no call uses the product of two elements or the inverse, since decode goes by exponents.
 mod tables; // the inverses
 
 ghost use mathlib.Core.Path.{_≡_};
@@ -72,16 +72,16 @@ pub fn inverse(m: u8, x: u8) -> u8
     }
 }
 
-// a^i
-pub fn alpha_to(m: u8, i: u8) -> u8
-    requires { ⌜ (4 ≤ m) × (m ≤ 6) ⌝ }
-    ensures { λ r. ⌜ r ≡ alphaTo m i ⌝ }
+// a^i times y; the power itself where y is 1
+pub fn alpha_times(m: u8, i: u8, y: u8) -> u8
+    requires { ⌜ (4 ≤ m) × (m ≤ 6) × (y < 2 ^ m) ⌝ }
+    ensures { λ r. ⌜ r ≡ times m (alphaTo m i) y ⌝ }
 {
-    let mut power: u8 = 1;
+    let mut moved = y;
     let mut k: u8 = 0;
     while k < i {
-        power = double(m, power);
+        moved = double(m, moved);
         k += 1;
     }
-    power
+    moved
 }

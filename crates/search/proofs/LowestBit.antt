@@ -1,31 +1,17 @@
--- The lowest set bit, as u64::trailing_zeros finds it and g & (g - 1) clears it, and one turn of a loop over the set bits of g:
--- j = trailing_zeros(g), then g & (g - 1). Assumes nothing.
+-- The lowest set bit, as g & (g - 1) clears it, and one turn of a loop over the set bits of g: j = trailing_zeros(g), then g & (g - 1).
+-- Assumes nothing.
 use mathlib.Core.Path.{_≡_, refl, sym, ap, _∙_}
-use mathlib.Core.Logic.{⊎-elim}
 use Prim.Native.Nat.{ℕ, zero, suc, _+_, _-_, _/_, _%_, _^_, _≤_, _<_}
-use native.Mathlib.Nat.{pow-suc, zero-min, min-zero, lt-of-lt-of-le, eq-zero-or-pos}
+use native.Mathlib.Nat.{pow-suc, zero-min, min-zero, lt-of-lt-of-le}
 use native.Mathlib.Omega.{arith}
 use lib.Count.{trailingZeros, under}
 use lib.Pow.{pow-mono}
 use lib.Bits.{bitAnd, and-step, xor-step, and-self, and-le-r, xor-zero-r}
 use Rattle.field.specs.Field.{_⊕_}
-use Rattle.codes.specs.Codeword.{bitOf}
-use Rattle.codes.proofs.WordLaws.{bit-high, half-lt}
+use Rattle.codes.proofs.WordLaws.{half-lt}
+use Rattle.codes.proofs.LowestOne.{lowest-set, set-low}
 use Rattle.search.specs.ByRank.{xorBits, sumBits}
 use Rattle.search.proofs.BitSumLaws.{xor-flip, sum-off}
-
--- it is set
-set-step : (d k g : ℕ) → g % 2 ≡ d → 0 < g → (0 < g / 2 → bitOf (g / 2) (trailingZeros k (g / 2)) ≡ 1)
-    → bitOf g (under d (trailingZeros k (g / 2))) ≡ 1
-unfolding bitOf
-set-step zero k g e p ih = ih (omega arith)
-set-step (suc zero) k g e p ih = e
-set-step (suc (suc d)) k g e p ih = absurd (omega arith)
-
-lowest-set : (k g : ℕ) → 0 < g → g < 2 ^ k → bitOf g (trailingZeros k g) ≡ 1
-unfolding trailingZeros
-lowest-set zero g p h = absurd (omega arith)
-lowest-set (suc k) g p h = set-step (g % 2) k g refl p (λ q. lowest-set k (g / 2) q (half-lt g k h))
 
 pow-half : (t : ℕ) → 2 ^ suc t / 2 ≡ 2 ^ t
 pow-half t = omega (arith, pow-suc 2 t)
@@ -33,7 +19,7 @@ pow-half t = omega (arith, pow-suc 2 t)
 pow-even : (t : ℕ) → 2 ^ suc t % 2 ≡ 0
 pow-even t = omega (arith, pow-suc 2 t)
 
--- and this clears it
+-- this clears it
 clear-step : (d t g : ℕ) → g % 2 ≡ d → 0 < g → (0 < g / 2 → bitAnd (g / 2) (g / 2 - 1) ≡ g / 2 ⊕ 2 ^ t)
     → bitAnd g (g - 1) ≡ g ⊕ 2 ^ under d t
 unfolding _⊕_
@@ -52,12 +38,6 @@ lowest-clear : (k g : ℕ) → 0 < g → g < 2 ^ k → bitAnd g (g - 1) ≡ g �
 unfolding trailingZeros
 lowest-clear zero g p h = absurd (omega arith)
 lowest-clear (suc k) g p h = clear-step (g % 2) (trailingZeros k (g / 2)) g refl p (λ q. lowest-clear k (g / 2) q (half-lt g k h))
-
--- a set bit of a word of n digits is one of them
-set-low : (n g j : ℕ) → g < 2 ^ n → bitOf g j ≡ 1 → j < n
-set-low n g j h e =
-    ⊎-elim (λ (z : n - j ≡ 0). absurd (omega (arith, bit-high g n j h (omega arith)))) (λ (l : 0 < n - j). omega arith)
-    (eq-zero-or-pos (n - j))
 
 -- fewer bits are left
 pub turn-less : (g : ℕ) → 0 < g → bitAnd g (g - 1) < g

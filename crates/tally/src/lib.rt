@@ -9,7 +9,7 @@ pub struct Outcome {
     pub same: bool,
     pub refused: bool,
     pub tied: bool,
-    // read brings back the message of a word that is zero in the unsent places, and refuses any other
+    // read brings back the message of a word that is zero in the unsent places, and refuses any other at its lowest one
     pub read: bool,
     // the word in the buffer
     pub word: u64,
@@ -47,7 +47,7 @@ const EQUAL_SHORT: usize = 11;
 const EQUAL_OTHER: usize = 12;
 
 // One more at a place, where a test passes.
-fn count(mut tally: [u64; 13], place: usize, met: bool) -> [u64; 13]
+pub fn count(mut tally: [u64; 13], place: usize, met: bool) -> [u64; 13]
     requires { ⌜ place < 13 ⌝ }
 {
     if met {
@@ -81,7 +81,7 @@ pub fn count_sent(tally: [u64; 13], margin: Margin, short: bool, returned: bool)
     count(equal_short, EQUAL_OTHER, both(margin.at_bound, !returned))
 }
 
-fn put_text(text: &[u8]) {
+pub fn put_text(text: &[u8]) {
     io::write_all(STDOUT_FILENO, text);
 }
 

@@ -1,7 +1,9 @@
 // One call of decode, and whether all of its answer and of its buffer is that of the exhaustive search; and a call of read on the buffer.
-ghost use Prim.Native.Nat.{_≤_, _<_};
+ghost use Prim.Native.Nat.{_≤_};
+use every_word::same_reading;
 use exhaustive::candidates::Found;
 use exhaustive::candidates::search;
+use exhaustive::reader::read;
 use exhaustive::received::values;
 use exhaustive::received::wide;
 use tally::Outcome;
@@ -33,29 +35,11 @@ fn is_same(answer: decode::Decoding, found: Found, buf: &[u8; 5], fill: u8) -> b
     same_answer(answer, found) && same_buffer(buf, fill, found.exists, found.word)
 }
 
-// The number of parity bits.
-fn parity_of(t: u16) -> u16
-    ensures { λ r. ⌜ r < 64 ⌝ }
-{
-    match t {
-        1 => 4,
-        2 => 8,
-        _ => 10,
-    }
-}
-
-// Whether read brings back the message of a word in the buffer, where one was written; it refuses a word with a one in an unsent place.
+// Whether read answers a word in the buffer as it has to, where one was written.
 fn reads(t: u16, s: u16, word: u64, buf: &[u8; 5], written: bool) -> bool
     requires { ⌜ s ≤ 15 ⌝ }
 {
-    if !written {
-        return true;
-    }
-    let reading = codec::read(4, t, s, buf);
-    let sent = word >> (15 - s) == 0;
-    let refusal = if sent { 0 } else { 8 };
-    let message = if sent { word >> parity_of(t) } else { 0 };
-    (reading.refusal as u64 ^ refusal) | (reading.message ^ message) == 0
+    !written || same_reading(codec::read(4, t, s, buf), read(word, t, s))
 }
 
 pub fn compare(list: &[u64], word: &[u8; 15], t: u16, s: u16, order: u16, fill: u8) -> Outcome

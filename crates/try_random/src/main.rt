@@ -1,4 +1,5 @@
-// Runs decode on words of 15 bits, and read on its answers, and compares them with an exhaustive search that shares no code with them.
+// Runs decode on words of 15 bits, and read on its answers and on every word, and compares them with an exhaustive search and a reader that
+// share no code with them.
 //
 // Random words of every code, shortening and order, and words sent with the wrong bits' sum at the edge of demand 3: one below the bound,
 // and at it. The file `stdout` has the counts.
@@ -12,6 +13,7 @@ use drawn::kinds::random_word;
 use drawn::random::drawn;
 use drawn::random::next;
 use drawn::random::other;
+use every_word::read_every_word;
 use exhaustive::roots::list_codewords;
 use exhaustive::sent::margin_of;
 use tally::CODEWORDS;
@@ -101,7 +103,7 @@ fn each_short(list: &[u64], t: u16, k: u16) -> [u64; 13]
 }
 
 fn run_code(t: u16, k: u16)
-    requires { ⌜ (t ≤ 3) × (k ≤ 15) ⌝ }
+    requires { ⌜ (t ≤ 3) × (1 ≤ k) × (k ≤ 15) ⌝ }
 {
     let mut space = [0u64; 2048];
     let count = list_codewords(t, &mut space);
@@ -109,6 +111,7 @@ fn run_code(t: u16, k: u16)
     tally[CODEWORDS] = count as u64;
     put(b"t=", t as u64);
     put_tally(&tally);
+    read_every_word(t, k);
 }
 
 fn main() {

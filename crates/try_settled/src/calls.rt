@@ -57,7 +57,11 @@ pub fn read_line(line: &[u8])
         short(line, 3),
         &space[0..count],
     );
-    put_line(line, &[reading.refusal as u64, reading.message], &space);
+    put_line(
+        line,
+        &[reading.refusal as u64, reading.message, reading.at as u64],
+        &space,
+    );
 }
 
 // Four of the marks are numbers.

@@ -1,14 +1,14 @@
 -- A word's bytes give the word back, its bytes written over themselves change nothing, and no other byte of the buffer
 -- changes. Assumes nothing.
-use mathlib.Core.Path.{_≡_, refl, sym, ap, ap₂, _∙_}
+use mathlib.Core.Path.{_≡_, refl, sym, ap, ap₂, _∙_, subst}
 use mathlib.Core.List.{List, [], _∷_, _++_}
-use Prim.Native.Nat.{ℕ, zero, suc, _+_, _*_, _/_, _^_, _<_, _≤_}
+use Prim.Native.Nat.{ℕ, zero, suc, _+_, _*_, _/_, _%_, _^_, _<_, _≤_}
 use native.Mathlib.Nat.{pow-suc, le-trans}
 use native.Mathlib.Omega.{arith}
 use lib.ListN.{length, take, drop, getD, length-append, length-drop, take-append-drop}
 use Rattle.field.specs.Field.{lengthOf}
 use Rattle.words.specs.Packing.{bytesOf, packed, unpacked, written, wordIn}
-use Rattle.words.proofs.ShapeLaws.{word-fits}
+use Rattle.words.proofs.ShapeLaws.{word-fits, bytes-filled}
 
 pub packed-length : (w n : ℕ) → length (packed w n) ≡ n
 unfolding packed
@@ -29,9 +29,19 @@ packed-unpacked zero bytes l h = refl
 packed-unpacked (suc n) [] l h = absurd (omega arith)
 packed-unpacked (suc n) (b ∷ bytes) l h =
     let low : b < 256 = h 0 (omega arith) in
-    let e : (b + 256 * unpacked bytes n) / 256 ≡ unpacked bytes n = omega arith in
+    let e : (b % 256 + 256 * unpacked bytes n) / 256 ≡ unpacked bytes n = omega arith in
     ap₂ _∷_ (omega arith)
     (ap (λ (w : ℕ). packed w n) e ∙ packed-unpacked n bytes (omega arith) (λ i k. h (suc i) (omega arith)))
+
+unpacked-lt : (n : ℕ) (bytes : List ℕ) → unpacked bytes n < 256 ^ n
+unfolding unpacked
+unpacked-lt zero bytes = omega arith
+unpacked-lt (suc n) [] = omega (arith, pow-suc 256 n, unpacked-lt n [])
+unpacked-lt (suc n) (b ∷ bytes) = omega (arith, pow-suc 256 n, unpacked-lt n bytes)
+
+-- the n positions and the pad bit
+pub word-in-lt : (m : ℕ) (bytes : List ℕ) → 4 ≤ m → m ≤ 6 → wordIn m bytes < 2 ^ suc (lengthOf m)
+word-in-lt m bytes a c = subst (λ (x : ℕ). wordIn m bytes < x) (bytes-filled m a c) (unpacked-lt (bytesOf m) bytes)
 
 pub written-length : (m w : ℕ) (before : List ℕ) → bytesOf m ≤ length before → length (written m w before) ≡ length before
 unfolding written

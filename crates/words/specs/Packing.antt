@@ -20,10 +20,11 @@ unfoldable pub packed : ℕ → ℕ → List ℕ
 packed w zero = []
 packed w (suc n) = w % 256 ∷ packed (w / 256) n
 
+-- a number that is no byte counts by its low eight bits, so that n bytes have 8n bits whatever is given
 unfoldable pub unpacked : List ℕ → ℕ → ℕ
 unpacked bytes zero = 0
 unpacked [] (suc n) = 0
-unpacked (b ∷ bytes) (suc n) = b + 256 * unpacked bytes n
+unpacked (b ∷ bytes) (suc n) = b % 256 + 256 * unpacked bytes n
 
 -- "Success in encode and decode writes exactly the first W bytes."
 unfoldable pub written : ℕ → ℕ → List ℕ → List ℕ

@@ -6,7 +6,7 @@ use native.Mathlib.Omega.{arith}
 use lib.ListN.{drop}
 use denote.Ref.{now}
 use Rattle.words.specs.Packing.{packed, written}
-use Rattle.codec.proofs.CodecLaws.{encode-refuses, encode-checked, encode-small, encode-writes}
+use Rattle.codec.proofs.EncodeLaws.{encode-refuses, encode-checked, encode-small, encode-writes}
 use borrow.Author.Needs.{needs}
 use Rattle.codec.proofs.encode.Statement.{statement}
 use Rattle.codec.proofs.encode.Tie as tie

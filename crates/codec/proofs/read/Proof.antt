@@ -13,8 +13,9 @@ use Rattle.words.specs.Packing.{unpacked, wordIn}
 use Rattle.frame.proofs.RefusalLaws.{ReadPassed}
 use Rattle.codec.specs.GivenBack.{says}
 use Rattle.codec.specs.Read.{ReadAnswers}
+use Rattle.codec.specs.Called.{faultOf}
 use Rattle.codec.specs.declared.Reading.{Reading}
-use Rattle.codec.proofs.CodecLaws.{read-refuses, read-checked, read-unsent, read-message-lt, read-other, read-takes}
+use Rattle.codec.proofs.ReadLaws.{read-refuses, read-checked, read-high, read-message-lt, read-other, read-takes}
 use borrow.Author.Needs.{needs}
 use Rattle.codec.proofs.read.Statement.{statement}
 use Rattle.codec.proofs.read.Tie as tie
@@ -90,15 +91,15 @@ sub-sent c =
 shr-if2 : tie.Need-shr-if2
 shr-if2 c = search needs
 
-refuse-requires-2 : tie.Need-refuse-requires-2
-refuse-requires-2 c κs = search needs
+fault-of-requires : tie.Need-fault-of-requires
+fault-of-requires c κs = let k = passed (c .before .before .before .before) in (k .known, k .short)
 
 returns-2 : tie.Need-returns-2
 returns-2 c =
     let e = c .before .before .before .before .before in
     let r = e .before .read-refusal in
-    subst (λ (x : Reading). ReadAnswers (m e) (t e) (s e) (bytes e) x) (sym (c .refuse2 .ensures))
-    (read-unsent (m e) (t e) (s e) (bytes e) (r .result) (r .ensures) (e .if1 .left)
+    subst (ReadAnswers (m e) (t e) (s e) (bytes e)) (sym (c .fault-of .ensures ∙ ap (faultOf (m e) (t e) (s e)) (word-is (c .before .before .before))))
+    (read-high (m e) (t e) (s e) (bytes e) (r .result) (r .ensures) (e .if1 .left)
     (subst (λ (x : ℕ). 0 < x) (high-is (c .before .before)) (c .before .if2 .taken)))
 
 parity-bits-requires : tie.Need-parity-bits-requires
@@ -116,17 +117,18 @@ word-of-requires c κs =
           (read-message-lt (m e) (t e) (s e) (bytes e) (r .result) (r .ensures) (e .if1 .left) (none-unsent (c .before))),
     )
 
-refuse-requires-3 : tie.Need-refuse-requires-3
-refuse-requires-3 c κs = search needs
+fault-of-requires-2 : tie.Need-fault-of-requires-2
+fault-of-requires-2 c κs = let k = passed (c .before .before .before .before .before .before .before) in (k .known, k .short)
 
 returns-3 : tie.Need-returns-3
 returns-3 c =
     let w = c .before .before in
     let e = w .before .before .before .before .before .before in
     let r = e .before .read-refusal in
-    subst (λ (x : Reading). ReadAnswers (m e) (t e) (s e) (bytes e) x) (sym (c .refuse3 .ensures))
+    let i = w .before .before .before .before in
+    subst (ReadAnswers (m e) (t e) (s e) (bytes e)) (sym (c .fault-of2 .ensures ∙ ap (faultOf (m e) (t e) (s e)) (word-is i)))
     (read-other (m e) (t e) (s e) (bytes e) (r .result) (r .ensures) (e .if1 .left) (none-unsent (w .before .before))
-    (w .word-of .result) (again-is w) (λ q. c .before .if3 .taken (q ∙ sym (word-is (w .before .before .before .before)))))
+    (w .word-of .result) (again-is w) (λ q. c .before .if3 .taken (q ∙ sym (word-is i))))
 
 returns-4 : tie.Need-returns-4
 returns-4 c =
@@ -149,11 +151,11 @@ read-spec =
     length-of-requires
     sub-sent
     shr-if2
-    refuse-requires-2
+    fault-of-requires
     returns-2
     parity-bits-requires
     shr-message
     word-of-requires
-    refuse-requires-3
+    fault-of-requires-2
     returns-3
     returns-4)

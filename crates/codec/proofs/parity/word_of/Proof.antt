@@ -5,7 +5,7 @@ use Rattle.field.specs.Field.{_⊕_}
 use Rattle.codes.specs.Code.{dimensionOf, parityOf, generatorOf}
 use Rattle.codes.specs.Generator.{remainderBy}
 use borrow.Author.Needs.{needs}
-use Rattle.codec.proofs.CodecLaws.{message-moved, moved-lt, systematic-is}
+use Rattle.codec.proofs.EncodeLaws.{message-moved, moved-lt, systematic-is}
 use Rattle.codec.proofs.parity.word_of.Statement.{statement}
 use Rattle.codec.proofs.parity.word_of.Tie as tie
 

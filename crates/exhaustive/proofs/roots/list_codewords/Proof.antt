@@ -22,8 +22,8 @@ powers-requires c κs = search needs
 loop-holds : tie.Need-loop-holds Inv-loop μ-loop
 loop-holds c = search needs
 
-is-codeword-requires : tie.Need-is-codeword-requires Inv-loop μ-loop
-is-codeword-requires c κs = search needs
+lowest-power-requires : tie.Need-lowest-power-requires Inv-loop μ-loop
+lowest-power-requires c κs = search needs
 
 put-requires : tie.Need-put-requires Inv-loop μ-loop
 put-requires c κs = search needs
@@ -53,7 +53,7 @@ list-codewords-spec =
     μ-loop
     powers-requires
     loop-holds
-    is-codeword-requires
+    lowest-power-requires
     put-requires
     add-w
     loop-less

@@ -2,7 +2,7 @@
 -- measure is the number of bytes left. Assumes nothing.
 use mathlib.Core.Path.{_≡_, refl, _∙_}
 use mathlib.Core.List.{List, _∷_}
-use Prim.Native.Nat.{ℕ, suc, _+_, _-_, _*_, _^_, _≤_, _<_}
+use Prim.Native.Nat.{ℕ, suc, _+_, _-_, _*_, _%_, _^_, _≤_, _<_}
 use native.Mathlib.Nat.{le-trans, pow-suc, pow-le-pow-right, sub-self}
 use native.Mathlib.Numerals.{add-one}
 use native.Mathlib.Omega.{arith}
@@ -30,7 +30,7 @@ taken-more bytes n word i r h l b =
     let e : n - (i + 1) ≡ n - i - 1 = omega arith in
     let f : suc (n - i - 1) ≡ n - i = omega arith in
     let d : drop (n - i - 1) bytes ≡ getD bytes (n - i - 1) 0 ∷ drop (n - i) bytes = drop-cons bytes (n - i - 1) 0 (omega arith) ∙ rw f in
-    let step : unpacked (drop (n - (i + 1)) bytes) (i + 1) ≡ getD bytes (n - i - 1) 0 + 256 * unpacked (drop (n - i) bytes) i =
+    let step : unpacked (drop (n - (i + 1)) bytes) (i + 1) ≡ getD bytes (n - i - 1) 0 % 256 + 256 * unpacked (drop (n - i) bytes) i =
     rw (e, add-one i, d) in
     record { at = omega arith; value = omega (arith, step, r .value); low = rw (add-one i, pow-suc 256 i) (omega (arith, r .low)) }
 

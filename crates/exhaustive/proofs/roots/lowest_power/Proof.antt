@@ -1,8 +1,8 @@
--- `exhaustive::roots::is_codeword` is safe and ends: the measure is the number of roots left. Assumes nothing.
+-- `exhaustive::roots::lowest_power` is safe and ends: the measure is the number of roots left. Assumes nothing.
 use Prim.Native.Nat.{_≤_, _+_, _-_, _*_}
 use borrow.Author.Needs.{needs}
-use Rattle.exhaustive.proofs.roots.is_codeword.Statement.{statement}
-use Rattle.exhaustive.proofs.roots.is_codeword.Tie as tie
+use Rattle.exhaustive.proofs.roots.lowest_power.Statement.{statement}
+use Rattle.exhaustive.proofs.roots.lowest_power.Tie as tie
 
 abbrev Inv-loop : tie.InvT-loop
 Inv-loop powers w t e₀ e = e ≤ 2 * t + 1
@@ -34,8 +34,8 @@ loop-again c = search needs
 returns-2 : tie.Need-returns-2 Inv-loop μ-loop
 returns-2 c = search needs
 
-pub is-codeword-spec : {M : Type 1} → statement M
-is-codeword-spec =
+pub lowest-power-spec : {M : Type 1} → statement M
+lowest-power-spec =
     tie.close
     (tie.spec
     Inv-loop
