@@ -1,4 +1,4 @@
-//! What is measured: encode and read at (63,45), and decode, in plain C and proved, at each code and order; and the words that they are given.
+//! What is measured: encode and read at (63,45), read of a word that it refuses, and decode, in plain C and proved, at each code and order; and the words that they are given.
 use crate::channel::{deviation, receive, Random};
 use crate::library::{self, CODES};
 use crate::plain::{self, Answer, Version};
@@ -22,11 +22,12 @@ pub fn cells() -> Vec<Cell> {
 /// The code of encode and read.
 pub const LARGEST: Cell = Cell { m: 6, t: 3, k: 45, order: 0 };
 
-/// A message, its codeword, and what is received of it.
+/// A message, its codeword, what is received of it, and its codeword in the code of t - 1, where there is one.
 pub struct Word {
     message: u64,
     sent: [u8; 8],
     soft: Vec<i8>,
+    other: [u8; 8],
 }
 
 impl Cell {
@@ -49,8 +50,9 @@ impl Cell {
     pub fn words(&self, random: &mut Random, count: usize) -> Vec<Word> {
         let sigma = deviation(f64::from(self.k) / self.n() as f64, 4.0);
         let mut one = || {
-            let mut word = Word { message: random.below(1 << self.k), sent: [0; 8], soft: vec![0; self.n()] };
+            let mut word = Word { message: random.below(1 << self.k), sent: [0; 8], soft: vec![0; self.n()], other: [0; 8] };
             library::encode(self.m, self.t, 0, word.message, &mut word.sent);
+            library::encode(self.m, self.t - 1, 0, word.message, &mut word.other);
             receive(random, u64::from_le_bytes(word.sent), sigma, &mut word.soft);
             word
         };
@@ -73,6 +75,7 @@ impl Cell {
 pub enum Call {
     Encode,
     Read,
+    Unread, // read, of a word that is not zero at the power 2t - 1
     Plain(Version, Cell),
     Proved(Cell),
 }
@@ -89,6 +92,10 @@ impl Call {
                 let mut message = [0];
                 let refusal = library::read(LARGEST.m, LARGEST.t, 0, &word.sent, &mut message);
                 Answer { refusal, word: message[0], ..Answer::default() }
+            }
+            Call::Unread => {
+                let refusal = library::read(LARGEST.m, LARGEST.t, 0, &word.other, &mut [0]);
+                Answer { refusal, ..Answer::default() }
             }
             Call::Plain(version, cell) => cell.plain(version, 0, &word.soft),
             Call::Proved(cell) => cell.proved(0, &word.soft),

@@ -1,4 +1,4 @@
-//! Holds the three calls against bench/reference.rs on random inputs: `compare [INPUTS]` prints how many were compared and how many differ.
+//! Holds the calls against bench/reference.rs on random inputs: `compare [INPUTS]` prints how many were compared and how many differ.
 //! Inputs are of all nine codes, long and short, in order and out of it: unknown codes, large s and order, wrong counts, short memory,
 //! words in noise, damaged words, ties. Lent memory is filled before, longer than what is lent, and looked at whole afterwards.
 mod channel;
@@ -12,6 +12,7 @@ const SPARE: usize = 12; // bytes of a word's memory; at most that many are lent
 struct Inputs {
     random: Random,
     codes: Vec<Vec<Code>>,
+    places: [u64; 63], // how often read's 9 and 10 have each place
 }
 
 // what a call is given of a code, and the code where there is one
@@ -105,27 +106,38 @@ impl Inputs {
         let (_, bits) = name.sizes();
         let mut sent = name.code.map_or(0, |code| code.encoded(random.below(1 << bits)));
         let n = name.code.map_or(15, |c| c.n);
-        match random.below(8) {
+        match random.below(12) {
             0 => sent ^= 1 << random.below(n as u64 + 1),                                // a wrong bit, or the pad bit
             1 => sent ^= 1 << random.below(n as u64) | 1 << random.below(n as u64),
             2 => sent = random.bits() >> (63 - n),                                       // any bits
             3 => sent = name.code.map_or(sent, |c| c.encoded(random.below(1 << c.k))),   // a codeword with ones unsent
+            4 => sent ^= 1 << n,                                                         // the pad bit alone
+            5 => sent ^= (random.bits() >> (63 - n)) & !0 << (n - (name.s as usize).min(n)), // ones unsent, and the pad bit
+            6..=7 => {                                                                   // a word that fails at 3 or 5 first
+                let weaker = name.code.map_or(0, |c| random.below(c.t as u64) as usize);
+                if let (1.., Some(code)) = (weaker, name.code) {
+                    let sent_bits = code.n - (name.s as usize).min(code.k - 1);
+                    let other = &self.codes[name.m as usize - 4][weaker - 1];
+                    sent = other.encoded(random.below(1 << (sent_bits + other.k - other.n)));
+                }
+            }
             _ => {}
         }
         let (filler, length) = (memory(random), room(random, name.width()));
         let word = place(sent, name.width(), &filler);
         let before = [random.bits(), random.bits(), random.bits()];
         let places = random.below(3) as usize;
-        let unsent = name.code.map_or(0, |c| sent >> (c.n - (name.s as usize).min(c.n)));
-        let fine = name.code.is_some_and(|c| c.is_codeword(sent)) && unsent == 0;
-        let refusal = first(&[(name.refusal() > 0, name.refusal()), (length < name.width(), 5), (!fine, 8)]);
+        let (fault, at) = name.code.map_or((0, 0), |c| c.fault((name.s as usize).min(c.n), sent));
+        let refusal = first(&[(name.refusal() > 0, name.refusal()), (length < name.width(), 5), (fault > 0, fault)]);
         let mut want = before;
         if refusal == 0 && places > 0 {
             want[0] = sent >> (n - name.code.unwrap().k);
         }
         let (lent, mut message) = (word, before);
         let result = library::read(name.m, name.t, name.s, &lent[..length], &mut message[..places]);
-        (result, result == refusal && message == want && lent == word)
+        let told = library::fault(name.m, name.t, name.s, &lent[..length]);
+        self.places[at as usize] += u64::from(refusal > 8);
+        (result, result == refusal && told == if refusal > 8 { at } else { 0 } && message == want && lent == word)
     }
 
     fn decode(&mut self) -> (u32, bool) {
@@ -191,16 +203,16 @@ fn values(random: &mut Random, name: &Named, count: usize) -> Vec<i8> {
 
 fn main() {
     let inputs: u64 = std::env::args().nth(1).map_or(400_000, |n| n.parse().expect("the number of inputs"));
-    let mut all = Inputs { random: Random::new(1), codes: all() };
+    let mut all = Inputs { random: Random::new(1), codes: all(), places: [0; 63] };
     let mut differ = 0;
     let calls: [(&str, fn(&mut Inputs) -> (u32, bool)); 3] = [("encode", Inputs::encode), ("read", Inputs::read), ("decode", Inputs::decode)];
     for (part, (call, one)) in calls.into_iter().enumerate() {
         let share = if part < 2 { inputs / 4 } else { inputs - 2 * (inputs / 4) };
-        let (mut results, mut wrong) = ([0u64; 9], 0);
+        let (mut results, mut wrong) = ([0u64; 11], 0);
         for i in 0..share {
             all.random = Random::new(3 * i + part as u64 + 1);
             let (result, fine) = one(&mut all);
-            results[(result as usize).min(8)] += 1;
+            results[(result as usize).min(10)] += 1;
             if !fine {
                 wrong += 1;
                 if wrong <= 3 {
@@ -208,10 +220,12 @@ fn main() {
                 }
             }
         }
-        let given: Vec<String> = (0..9).filter(|&r| results[r] > 0).map(|r| format!("{r}: {}", results[r])).collect();
+        let given: Vec<String> = (0..11).filter(|&r| results[r] > 0).map(|r| format!("{r}: {}", results[r])).collect();
         println!("{call:<6} {share:>7} compared, {wrong} differ; results {}", given.join(", "));
         differ += wrong;
     }
+    let [one, three, five] = [1, 3, 5].map(|power| all.places[power]);
+    println!("       places of read's 9 and 10: {} of 0 to 62, among them 1: {one}, 3: {three}, 5: {five}", all.places.iter().filter(|&&n| n > 0).count());
     println!("all    {inputs:>7} compared, {differ} differ");
     std::process::exit(i32::from(differ > 0));
 }

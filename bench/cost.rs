@@ -1,4 +1,4 @@
-//! What encode, read and decode cost, and decode in plain C (bench/plain.c), at all 36 codes and orders. `cost` prints the time of each call;
+//! What encode, read, also of a word that it refuses, and decode cost, and decode in plain C (bench/plain.c), at all 36 codes and orders. `cost` prints the time of each call;
 //! under callgrind `cost count` makes each call once a word, between two marks, and `cost FILE` prints instructions and entered patterns too,
 //! from the dumps that callgrind writes (bench/counts.rs). Of plain C's two versions the better one is printed, cell by cell. Every answer is
 //! compared: it fails where one differs.
@@ -28,16 +28,18 @@ fn decodes(cell: Cell) -> [Call; PROVED + 1] {
     [Call::Plain(Version::Branching, cell), Call::Plain(Version::Straight, cell), Call::Proved(cell)]
 }
 
+const CODEC: [Call; 3] = [Call::Encode, Call::Read, Call::Unread];
+
 // encode and read, then the decodes of each cell
 fn calls() -> Vec<Call> {
-    [Call::Encode, Call::Read].into_iter().chain(cells().into_iter().flat_map(decodes)).collect()
+    CODEC.into_iter().chain(cells().into_iter().flat_map(decodes)).collect()
 }
 
 fn count() {
     for call in calls() {
         let words = match call {
             Call::Plain(_, cell) | Call::Proved(cell) => counted(cell),
-            Call::Encode | Call::Read => counted(LARGEST),
+            Call::Encode | Call::Read | Call::Unread => counted(LARGEST),
         };
         counts::marked(|| words.iter().for_each(|word| { std::hint::black_box(call.make(word)); }));
     }
@@ -96,7 +98,7 @@ fn main() {
     if argument.as_deref() == Some("count") {
         return count();
     }
-    let (mut codec, mut random) = (Clock::new(&[Call::Encode, Call::Read]), Random::new(1));
+    let (mut codec, mut random) = (Clock::new(&CODEC), Random::new(1));
     let mut found: Vec<Found> = cells().into_iter().map(Found::new).collect();
     for _ in 0..PASSES {
         codec.take(&LARGEST.words(&mut random, FRESH));

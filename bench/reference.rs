@@ -89,6 +89,19 @@ impl Code {
         word >> self.n == 0 && self.syndromes(word) == 0
     }
 
+    /// Which of read's checks of a word fails, 8, 9 or 10, and where; zeros where none does. The places are tried one by one, and the syndromes
+    /// at every power.
+    pub fn fault(&self, s: usize, word: u64) -> (u32, u32) {
+        if word >> self.n & 1 == 1 {
+            return (8, 0);
+        }
+        if let Some(p) = (self.n - s..self.n).find(|p| word >> p & 1 == 1) {
+            return (9, p as u32);
+        }
+        let syndromes = self.syndromes(word);
+        (0..2 * self.t).find(|&i| at(syndromes, i) != 0).map_or((0, 0), |i| (10, i as u32 + 1))
+    }
+
     pub fn encoded(&self, message: u64) -> u64 {
         let word = message << (self.n - self.k);
         self.reduced(self.syndromes(word), word).1

@@ -50,6 +50,8 @@ int main(void) {
     long base = used(EMPTY);
     printf("stack of encode (63,45): %ld bytes\n", used(ENCODE) - base);
     printf("stack of read (63,45): %ld bytes\n", used(READ) - base);
+    word[0] ^= 1;
+    printf("stack of read (63,45), refused with 10: %ld bytes\n", used(READ) - base);
     long most = 0;
     for (m = 4; m <= 6; m++) for (t = 1; t <= 3; t++) for (order = 0; order <= 3; order++) for (int i = 0; i < 4; i++) {
         for (int p = 0; p < 63; p++) soft[p] = i == 0 ? 0 : i == 1 ? -128 : (int8_t)rand();

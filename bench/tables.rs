@@ -2,7 +2,7 @@
 use crate::cells::ORDERS;
 use crate::counts::Dump;
 use crate::times::Clock;
-use crate::{Found, COUNTED, PROVED};
+use crate::{Found, CODEC, COUNTED, PROVED};
 
 const PATTERN: &str = "candidates::pattern::pattern"; // the proved function that tries one pattern
 const BRANCHING: usize = 0; // the places of plain C's versions among the decodes of a cell
@@ -30,9 +30,9 @@ pub fn print(file: Option<&str>, codec: &Clock, found: &[Found]) {
     }
 }
 
-// the number of a cell's call: encode and read are 0 and 1
+// the number of a cell's call: those of encode and read come first
 fn number(cell: usize, call: usize) -> usize {
-    2 + (PROVED + 1) * cell + call
+    CODEC.len() + (PROVED + 1) * cell + call
 }
 
 fn instructions(file: &str, number: usize) -> f64 {
@@ -53,7 +53,7 @@ fn time_of(clock: &Clock) -> Cost {
 
 fn print_codec(file: Option<&str>, codec: &Clock) {
     println!("{:<20}{:>14}{:>14}", "a word", "instructions", "microseconds");
-    for (call, title) in ["encode (63,45)", "read (63,45)"].iter().enumerate() {
+    for (call, title) in ["encode (63,45)", "read (63,45)", "  refused at a^5"].iter().enumerate() {
         let counted = file.map_or("-".into(), |f| grouped(instructions(f, call)));
         println!("{title:<20}{counted:>14}{:>14.3}", codec.median(call));
     }

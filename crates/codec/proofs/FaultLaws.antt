@@ -4,11 +4,12 @@
 --   not-pad, not-unsent, not-root         a readable word fails none
 --   readable-where                        and a word that fails none is readable
 -- Assumes nothing.
-use mathlib.Core.Path.{_≡_, refl, sym, ap, ap₂, _∙_, subst}
-use mathlib.Core.Logic.{_≢_, _⊎_, _↔_, ⊎-elim}
+use mathlib.Core.Path.{_≡_, refl, ap, ap₂, _∙_, subst}
+use mathlib.Core.Logic.{_≢_, _↔_, ⊎-elim}
 use mathlib.Core.Bool.{Bool, true, false, cond}
-use Prim.Native.Nat.{ℕ, suc, _+_, _-_, _*_, _/_, _%_, _^_, _<_, _≤_}
-use native.Mathlib.Nat.{le-trans, eq-zero-or-pos}
+use Prim.Native.Nat.{ℕ, suc, _+_, _-_, _*_, _/_, _^_, _<_, _≤_}
+use native.Mathlib.Nat.{le-trans, eq-zero-or-pos, lt-of-not-le}
+use native.Mathlib.Decide.{decLe}
 use native.Mathlib.Omega.{arith}
 use lib.Pow.{pow-mono}
 use lib.Dec.{T, ltb, ltb→lt, lt→ltb}
@@ -26,7 +27,6 @@ use Rattle.codes.proofs.GeneratorRight.{at-bits}
 use Rattle.codec.specs.GivenBack.{says, faultAt}
 use Rattle.codec.specs.Read.{Readable, UnsentFault, RootFault}
 use Rattle.codec.specs.Called.{faultOf}
-use Rattle.codec.specs.declared.Reading.{Reading}
 
 -- bit n is the last of n + 1
 pad-one : (n w : ℕ) → w < 2 ^ suc n → ¬ w < 2 ^ n → bitOf w n ≡ 1
@@ -75,11 +75,12 @@ module _ (m t s w : ℕ) where
   fault-unsent r p fits l h =
       picked true false (within n l) (beyond sent (not-below sent p (h .low) (h .nonzero)))
       ∙ ap (faultAt 9) (lowest-is (bitOf w) sent s p
-      (record { low = h .low; high = below (ltb p n) refl; nonzero = h .nonzero; lower = h .lower }))
+      (record { low = h .low; high = below (decLe n p); nonzero = h .nonzero; lower = h .lower }))
     where
-      below : (b : Bool) → ltb p n ≡ b → p < sent + s
-      below true e = let k = ltb→lt p n (subst T (sym e) tt) in omega arith
-      below false e = absurd (h .nonzero (bit-high w n p l (lib.Dec.nltb→le p n (subst (λ (x : Bool). T (mathlib.Core.Bool.not x)) (sym e) tt))))
+      -- what is not 0 is one of the n bits
+      below : Dec (n ≤ p) → p < sent + s
+      below (yes k) = absurd (h .nonzero (bit-high w n p l k))
+      below (no k) = let q : p < n = lt-of-not-le k in omega arith
 
   pub fault-root : s ≤ n → w < 2 ^ sent → faultOf m t s w ≡ faultAt 10 power
   fault-root fits l = picked true true (within n (le-trans l (pow-mono {i = sent} {j = n} (omega arith)))) (within sent l)

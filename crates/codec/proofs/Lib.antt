@@ -5,3 +5,4 @@ pub mod ReadLaws
 pub mod CalledLaws
 pub mod CodecOneAnswer
 pub mod RoundTrip
+pub mod Anchors

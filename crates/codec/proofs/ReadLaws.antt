@@ -8,7 +8,7 @@ use Prim.Native.Nat.{ℕ, suc, _-_, _*_, _/_, _^_, _<_, _≤_}
 use native.Mathlib.Nat.{le-trans, div-eq-of-lt}
 use native.Mathlib.Omega.{arith}
 use lib.Pow.{pow-mono}
-use lib.Dec.{T, ltb, eqb, ltb→lt, lt→ltb, eqb→eq}
+use lib.Dec.{ltb, eqb, ltb→lt, lt→ltb, eqb→eq}
 use lib.ListN.{length}
 use Rattle.field.specs.Field.{lengthOf}
 use Rattle.field.proofs.TestLaws.{is-true, is-false, and-left, and-right, and-both, eq→eqb}
@@ -27,7 +27,6 @@ use Rattle.frame.proofs.RefusalLaws.{ReadPassed, read-passed}
 use Rattle.codec.specs.GivenBack.{says, faultAt}
 use Rattle.codec.specs.Read.{Readable, UnsentFault, RootFault, ReadAnswers}
 use Rattle.codec.specs.Called.{readable, faultOf, readingAfter}
-use Rattle.codec.specs.declared.Reading.{Reading}
 use Rattle.codec.proofs.FaultLaws.{fault-pad, fault-unsent, fault-root, not-below, not-pad, not-unsent, not-root, pad-clear}
 use Rattle.codec.proofs.FaultLaws.{Outcome, accepted, pad, unsent, root, outcome}
 
@@ -136,4 +135,5 @@ module _ (m t s : ℕ) (bytes : List ℕ) where
           read-other n = faulty (λ r. n (q ∙ readable-again m t s word (read-checked .known) (read-checked .short) r))
 
           pub read-takes : again ≡ word → ReadAnswers m t s bytes (says 0 (word / 2 ^ parityOf m t))
-          read-takes w = ReadAnswers.taken passes (again-readable m t s word (read-checked .known) (read-checked .short) below (sym q ∙ w)) refl
+          read-takes w =
+              ReadAnswers.taken passes (again-readable m t s word (read-checked .known) (read-checked .short) below (sym q ∙ w)) refl

@@ -33,8 +33,8 @@ pub record RootFault (m t s w e : ℕ) : Type 0 where
   pub clear : (p : ℕ) → lengthOf m - s ≤ p → bitOf w p ≡ 0
   pub lowest : Lowest 1 (2 * t) (valueAt m (bitOf w)) e
 
--- "Refusals: 8 pad bit, then 9 unsent bit, then 10 root." "A refusal returns its number with all other fields zero" but for the place that 9
--- and 10 give. "Read looks at the first W bytes .. and returns the message."
+-- "Refusals: 8 pad bit, then 9 unsent bit, then 10 root." "A refusal returns its number with all other fields zero", but for the place that
+-- 9 and 10 give. "Read looks at the first W bytes .. and returns the message."
 pub data ReadAnswers (m t s : ℕ) (bytes : List ℕ) (answer : Reading) : Type 0 where
   refused : readRefusal m t s (length bytes) ≢ 0 → answer ≡ says (readRefusal m t s (length bytes)) 0
       → ReadAnswers m t s bytes answer

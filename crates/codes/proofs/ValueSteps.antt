@@ -65,4 +65,4 @@ module _ (m : ℕ) (F : Laws m) (e : ℕ) where
   turn-first w = zero-xor (times m 1 (at w)) ∙ comm 1 (at w) ∙ one (at w) (at-lt m F (bitOf w) e)
 
   pub turn-last : (sum power : ℕ) → sum ⊕ times m power (at 0) ≡ sum
-  turn-last sum power = ap (λ (u : ℕ). sum ⊕ times m power u) (at-zero m F e) ∙ ap (λ (u : ℕ). sum ⊕ u) (times-zero m F power) ∙ xor-zero sum
+  turn-last sum power = ap (λ (u : ℕ). sum ⊕ u) (ap (times m power) (at-zero m F e) ∙ times-zero m F power) ∙ xor-zero sum

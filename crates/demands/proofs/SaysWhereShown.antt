@@ -4,11 +4,11 @@
 use mathlib.Core.Path.{_≡_, refl, sym, ap, _∙_, subst}
 use mathlib.Core.Logic.{_≢_, _⊎_, inl, inr, ⊎-elim}
 use mathlib.Core.List.{List}
-use Prim.Native.Nat.{ℕ, _+_, _-_, _*_, _/_, _^_, _<_, _≤_}
+use Prim.Native.Nat.{ℕ, _-_, _*_, _/_, _^_, _<_, _≤_}
 use native.Mathlib.Omega.{arith}
 use lib.ListN.{length}
 use Rattle.field.specs.Field.{lengthOf}
-use Rattle.field.specs.Lowest.{Lowest, lowestOf}
+use Rattle.field.specs.Lowest.{lowestOf}
 use Rattle.field.proofs.LowestLaws.{lowest-cases}
 use Rattle.codes.specs.Code.{parityOf}
 use Rattle.codes.specs.Codeword.{bitOf, valueAt}
@@ -22,7 +22,7 @@ use Rattle.codec.specs.Read.{Readable, UnsentFault, RootFault, ReadAnswers}
 use Rattle.codec.specs.declared.Reading.{Reading}
 use Rattle.codec.proofs.CodecOneAnswer.{read-one-answer}
 use Rattle.codec.proofs.FaultLaws as faults
-use Rattle.demands.specs.SaysWhere.{SaysWhere, ReadSaysWhere, ReadableWhereNoFault, FaultGoesWithRead}
+use Rattle.demands.specs.SaysWhere.{ReadSaysWhere, ReadableWhereNoFault, FaultGoesWithRead}
 
 module _ (m t s : ℕ) (bytes : List ℕ) where
   abbrev n : ℕ
@@ -37,7 +37,8 @@ module _ (m t s : ℕ) (bytes : List ℕ) where
 
     pub unsent-lowest : bitOf w n ≡ 0 → (p : ℕ) → n - s ≤ p → p < n → bitOf w p ≡ 1 → UnsentFault m s w (lowestOf (n - s) s (bitOf w))
     unsent-lowest z p l h o =
-        ⊎-elim (λ f. absurd (omega (arith, f p l (omega (arith, short))))) (λ k. record { pad = z; lowest = k }) (lowest-cases (bitOf w) (n - s) s)
+        ⊎-elim (λ f. absurd (omega (arith, f p l (omega (arith, short))))) (λ k. record { pad = z; lowest = k })
+        (lowest-cases (bitOf w) (n - s) s)
 
   pub root-lowest : ((p : ℕ) → n - s ≤ p → bitOf w p ≡ 0) → (i : ℕ) → 1 ≤ i → i ≤ 2 * t → valueAt m (bitOf w) i ≢ 0
       → RootFault m t s w (lowestOf 1 (2 * t) (valueAt m (bitOf w)))

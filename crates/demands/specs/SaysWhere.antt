@@ -46,5 +46,6 @@ ReadableWhereNoFault = (m t s w : ℕ) → Known m t → s < dimensionOf m t →
 -- malligovu_read's number r and malligovu_fault's place p for the same arguments: one answer of read has both, and where r is neither 9 nor
 -- 10, p is 0
 abbrev pub FaultGoesWithRead : Type 0
-FaultGoesWithRead = (m t s : ℕ) (word message : List ℕ) (r p : ℕ) (left : List ℕ) → ReadTold m t s word message r left → FaultTold m t s word p
+FaultGoesWithRead = (m t s : ℕ) (word message : List ℕ) (r p : ℕ) (left : List ℕ)
+    → ReadTold m t s word message r left → FaultTold m t s word p
     → ((answer : Reading) × ReadAnswers m t s word answer × (answer .refusal ≡ r) × (answer .at ≡ p)) × (r ≢ 9 → r ≢ 10 → p ≡ 0)

@@ -32,7 +32,7 @@ pub record ReadTold (m t s : ℕ) (word message : List ℕ) (result : ℕ) (left
   pub refusal : result ≡ answer .refusal
   pub tells : left ≡ told result (answer .message ∷ []) message
 
--- "give the lowest unsent position at fault, or the lowest power at which the word is not zero" (Req 02); 0 where read's answer has no place
+-- "give the lowest unsent position at fault, or the lowest power at which the word is not zero" (Req 02); 0 where there is no place
 pub record FaultTold (m t s : ℕ) (word : List ℕ) (result : ℕ) : Type 0 where
   pub answer : Reading
   pub answers : ReadAnswers m t s word answer

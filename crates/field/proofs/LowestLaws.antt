@@ -1,10 +1,10 @@
 -- Of the numbers b, .., b + r - 1 the lowest at which f is not 0: there is one at most, and `lowestOf` finds it. Assumes nothing.
-use mathlib.Core.Path.{_≡_, refl, sym, ap, _∙_, subst}
+use mathlib.Core.Path.{_≡_, refl, sym, ap, ap₂, _∙_, subst}
 use mathlib.Core.Logic.{_≢_, _⊎_, inl, inr, ⊎-elim}
 use mathlib.Core.Bool.{Bool, cond}
-use Prim.Native.Nat.{ℕ, zero, suc, _+_, _-_, _<_, _≤_}
-use native.Mathlib.Nat.{eq-or-lt-of-le, eq-zero-or-pos}
-use native.Mathlib.Decide.{ℕ-discrete}
+use Prim.Native.Nat.{ℕ, zero, suc, _+_, _<_, _≤_}
+use native.Mathlib.Nat.{eq-or-lt-of-le, lt-of-not-le}
+use native.Mathlib.Decide.{ℕ-discrete, decLe}
 use native.Mathlib.Omega.{arith}
 use lib.Dec.{eqb, eqb→eq}
 use Rattle.field.specs.Lowest.{Lowest, lowestOf}
@@ -59,7 +59,11 @@ module _ (f : ℕ → ℕ) where
 -- the lowest is at most any at which f is not 0, and one of them that is so is the lowest
 module _ (f : ℕ → ℕ) (b r e : ℕ) where
   pub lowest-most : Lowest b r f e → (i : ℕ) → b ≤ i → f i ≢ 0 → e ≤ i
-  lowest-most h i l n = ⊎-elim (λ (k : e - i ≡ 0). omega arith) (λ (k : 0 < e - i). absurd (n (h .lower i l (omega arith)))) (eq-zero-or-pos (e - i))
+  lowest-most h i l n = go (decLe e i)
+    where
+      go : Dec (e ≤ i) → e ≤ i
+      go (yes k) = k
+      go (no k) = absurd (n (h .lower i l (lt-of-not-le k)))
 
   pub lowest-by : b ≤ e → e < b + r → f e ≢ 0 → ((i : ℕ) → b ≤ i → i < b + r → f i ≢ 0 → e ≤ i) → Lowest b r f e
   lowest-by l h n k = record { low = l; high = h; nonzero = n; lower = λ i a c. go i a c (ℕ-discrete (f i) 0) }
@@ -70,8 +74,8 @@ module _ (f : ℕ → ℕ) (b r e : ℕ) where
 
 -- it goes by f at these numbers alone
 pub lowest-cong : (b r : ℕ) (f g : ℕ → ℕ) → ((i : ℕ) → b ≤ i → i < b + r → f i ≡ g i) → lowestOf b r f ≡ lowestOf b r g
-lowest-cong b r f g h = ⊎-elim (λ z. lowest-at f b r (b + r) (omega arith) (omega arith) (λ i l k. h i l k ∙ z i l k) (λ k. absurd (omega arith))
-    ∙ sym (lowest-at g b r (b + r) (omega arith) (omega arith) z (λ k. absurd (omega arith))))
-    (λ (k : Lowest b r g (lowestOf b r g)). let l = k .high in lowest-at f b r (lowestOf b r g) (k .low) (omega arith)
-    (λ i a c. h i a (omega arith) ∙ k .lower i a c) (λ c e. k .nonzero (sym (h (lowestOf b r g) (k .low) c) ∙ e)))
-    (lowest-cases g b r)
+unfolding lowestOf
+lowest-cong b zero f g h = refl
+lowest-cong b (suc r) f g h =
+    ap₂ (λ (x rest : ℕ). cond (eqb x 0) rest b) (h b (omega arith) (omega arith))
+    (lowest-cong (suc b) r f g (λ i l k. h i (omega arith) (omega arith)))

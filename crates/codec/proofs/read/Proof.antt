@@ -98,7 +98,8 @@ returns-2 : tie.Need-returns-2
 returns-2 c =
     let e = c .before .before .before .before .before in
     let r = e .before .read-refusal in
-    subst (ReadAnswers (m e) (t e) (s e) (bytes e)) (sym (c .fault-of .ensures ∙ ap (faultOf (m e) (t e) (s e)) (word-is (c .before .before .before))))
+    let i = c .before .before .before in
+    subst (ReadAnswers (m e) (t e) (s e) (bytes e)) (sym (c .fault-of .ensures ∙ ap (faultOf (m e) (t e) (s e)) (word-is i)))
     (read-high (m e) (t e) (s e) (bytes e) (r .result) (r .ensures) (e .if1 .left)
     (subst (λ (x : ℕ). 0 < x) (high-is (c .before .before)) (c .before .if2 .taken)))
 

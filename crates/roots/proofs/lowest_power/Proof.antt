@@ -1,13 +1,11 @@
 -- `roots::lowest_power` meets its contract. The loop's invariant: e is odd, and the word is zero at every power below it. At the even power
 -- after e it is zero too, since the lowest power at which a word is not zero is odd. Assumes nothing.
 use mathlib.Core.Path.{_≡_, sym, ap, _∙_, subst}
-use mathlib.Core.Logic.{_≢_, ⊎-elim}
-use Prim.Native.Nat.{ℕ, suc, _+_, _-_, _*_, _%_, _^_, _<_, _≤_}
+use mathlib.Core.Logic.{⊎-elim}
+use Prim.Native.Nat.{ℕ, suc, _+_, _-_, _*_, _%_, _<_, _≤_}
 use native.Mathlib.Nat.{eq-or-lt-of-le, le-of-suc-le-suc}
-use native.Mathlib.Numerals.{add-one}
 use native.Mathlib.Decide.{ℕ-discrete}
 use native.Mathlib.Omega.{arith}
-use Rattle.field.specs.Lowest.{Lowest}
 use Rattle.field.proofs.LowestLaws.{lowest-at}
 use Rattle.codes.specs.Codeword.{bitOf, valueAt}
 use Rattle.codes.proofs.ClaimsShown.{faulty-powers-are-odd}
@@ -84,7 +82,8 @@ returns-2 : tie.Need-returns-2 Inv-loop μ-loop
 returns-2 c =
     let l = c .before .loop in
     let a = c .before .before .args in
-    sym (lowest-at (valueAt (a .m) (bitOf (a .word))) 1 (2 * a .t) (l .e) (omega arith) (omega arith) (l .inv .2) (λ k. absurd (omega arith)))
+    sym (lowest-at (valueAt (a .m) (bitOf (a .word))) 1 (2 * a .t) (l .e) (omega arith) (omega arith) (l .inv .2)
+    (λ k. absurd (omega arith)))
 
 pub lowest-power-spec : {M : Type 1} → statement M
 lowest-power-spec =

@@ -5,7 +5,6 @@ use mathlib.Core.Logic.{⊎-elim}
 use Prim.Native.Nat.{ℕ, _/_, _^_, _<_}
 use native.Mathlib.Omega.{arith}
 use Rattle.field.specs.Field.{_⊕_, times, alphaTo, lengthOf}
-use Rattle.field.specs.Laws.{Laws}
 use Rattle.field.proofs.FieldLaws.{laws}
 use Rattle.codes.specs.Codeword.{bitOf, valueAt}
 use Rattle.codes.proofs.ValueSteps.{turn-odd, turn-even, turn-first, turn-last}

@@ -1,13 +1,13 @@
 -- `codec::fault::fault_of` meets its contract: laws over named places of the code, then its needs. Assumes nothing.
-use mathlib.Core.Path.{_≡_, sym, ap, ap₂, subst, _∙_}
-use Prim.Native.Nat.{ℕ, _-_, _*_, _/_, _^_, _<_, _≤_}
+use mathlib.Core.Path.{_≡_, sym, ap, subst, _∙_}
+use Prim.Native.Nat.{ℕ, _-_, _/_, _^_, _<_, _≤_}
 use native.Mathlib.Nat.{div-eq-of-lt}
 use native.Mathlib.Omega.{arith}
 use Rattle.field.specs.Field.{_⊕_, lengthOf}
-use Rattle.field.specs.Lowest.{Lowest, lowestOf}
+use Rattle.field.specs.Lowest.{Lowest}
 use Rattle.field.proofs.XorLaws.{xor-lt}
-use Rattle.codes.specs.Code.{Known, dimensionOf, parityOf}
-use Rattle.codes.specs.Codeword.{bitOf, valueAt, Codeword}
+use Rattle.codes.specs.Code.{dimensionOf, parityOf}
+use Rattle.codes.specs.Codeword.{bitOf, Codeword}
 use Rattle.codes.specs.Generator.{systematic}
 use Rattle.codes.proofs.ShapeLaws.{parity-full}
 use Rattle.codes.proofs.WordLaws.{below-div}
@@ -68,7 +68,8 @@ again-is c =
 again-codeword : (c : tie.After-word-of) → let e = c .before .before .before .before in Codeword (m e) (t e) (c .word-of .result)
 again-codeword c =
     let e = c .before .before .before .before in
-    subst (Codeword (m e) (t e)) (sym (again-is c)) (systematic-codeword (m e) (t e) _ (e .before .pre .0) (message-small (c .before .before)))
+    subst (Codeword (m e) (t e)) (sym (again-is c))
+    (systematic-codeword (m e) (t e) _ (e .before .pre .0) (message-small (c .before .before)))
 
 length-of-requires : tie.Need-length-of-requires
 length-of-requires c κs = search needs

@@ -1,5 +1,5 @@
 -- `codec::fault::lowest_one` meets its contract. Assumes nothing.
-use Prim.Native.Nat.{ℕ, _+_, _/_, _^_, _<_, _≤_}
+use Prim.Native.Nat.{_/_, _^_, _≤_}
 use native.Mathlib.Nat.{div-le-self, lt-of-le-of-lt}
 use native.Mathlib.Omega.{arith}
 use lib.Count.{trailingZeros, trailing-le}
