@@ -71,7 +71,7 @@ stage "$build/libmalligovu.so" lib/libmalligovu.so 755
 stage "$build/malligovu.pc" lib/pkgconfig/malligovu.pc 644
 stage man/malligovu.1 share/man/man1/malligovu.1 644
 stage man/malligovu.3 share/man/man3/malligovu.3 644
-for call in encode read decode; do stage "$build/call.3" "share/man/man3/malligovu_$call.3" 644; done
+for call in encode read fault decode; do stage "$build/call.3" "share/man/man3/malligovu_$call.3" 644; done
 files=$(cd "$staged" && find . -type f | sed 's,^\./,,' | sort)
 
 # takes away what was copied and the folders that were made, the innermost first

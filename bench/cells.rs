@@ -1,4 +1,5 @@
-//! What is measured: encode and read at (63,45), read of a word that it refuses, and decode, in plain C and proved, at each code and order; and the words that they are given.
+//! What is measured: encode at (63,45), read of a good word and of one that it refuses, and decode, in plain C and proved, at each code and
+//! order; and the words that they are given.
 use crate::channel::{deviation, receive, Random};
 use crate::library::{self, CODES};
 use crate::plain::{self, Answer, Version};
@@ -22,7 +23,7 @@ pub fn cells() -> Vec<Cell> {
 /// The code of encode and read.
 pub const LARGEST: Cell = Cell { m: 6, t: 3, k: 45, order: 0 };
 
-/// A message, its codeword, what is received of it, and its codeword in the code of t - 1, where there is one.
+/// A message, its codeword, what is received of it, and a word that read refuses with 10 at the power 2t - 1, where t is above 1.
 pub struct Word {
     message: u64,
     sent: [u8; 8],
@@ -52,11 +53,24 @@ impl Cell {
         let mut one = || {
             let mut word = Word { message: random.below(1 << self.k), sent: [0; 8], soft: vec![0; self.n()], other: [0; 8] };
             library::encode(self.m, self.t, 0, word.message, &mut word.sent);
-            library::encode(self.m, self.t - 1, 0, word.message, &mut word.other);
+            word.other = self.unread(word.message);
             receive(random, u64::from_le_bytes(word.sent), sigma, &mut word.soft);
             word
         };
         (0..count).map(|_| one()).collect()
+    }
+
+    // a word of the code of t - 1, where there is one, that is none of the code of t: it fails at the power 2t - 1 first. If one is a word of
+    // both, the word of the message with another lowest bit is not
+    fn unread(&self, message: u64) -> [u8; 8] {
+        let mut word = [0; 8];
+        for lowest in 0..2 {
+            library::encode(self.m, self.t - 1, 0, message ^ lowest, &mut word);
+            if library::read(self.m, self.t, 0, &word, &mut []) == 10 {
+                break;
+            }
+        }
+        word
     }
 
     pub fn plain(&self, version: Version, s: u32, soft: &[i8]) -> Answer {
@@ -95,6 +109,7 @@ impl Call {
             }
             Call::Unread => {
                 let refusal = library::read(LARGEST.m, LARGEST.t, 0, &word.other, &mut [0]);
+                assert_eq!(refusal, 10);
                 Answer { refusal, ..Answer::default() }
             }
             Call::Plain(version, cell) => cell.plain(version, 0, &word.soft),

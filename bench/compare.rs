@@ -12,7 +12,8 @@ const SPARE: usize = 12; // bytes of a word's memory; at most that many are lent
 struct Inputs {
     random: Random,
     codes: Vec<Vec<Code>>,
-    places: [u64; 63], // how often read's 9 and 10 have each place
+    positions: [u64; 63], // how often read's 9 has each position
+    powers: [u64; 6],     // and its 10 each power
 }
 
 // what a call is given of a code, and the code where there is one
@@ -136,7 +137,11 @@ impl Inputs {
         let (lent, mut message) = (word, before);
         let result = library::read(name.m, name.t, name.s, &lent[..length], &mut message[..places]);
         let told = library::fault(name.m, name.t, name.s, &lent[..length]);
-        self.places[at as usize] += u64::from(refusal > 8);
+        match refusal {
+            9 => self.positions[at as usize] += 1,
+            10 => self.powers[at as usize] += 1,
+            _ => {}
+        }
         (result, result == refusal && told == if refusal > 8 { at } else { 0 } && message == want && lent == word)
     }
 
@@ -203,7 +208,7 @@ fn values(random: &mut Random, name: &Named, count: usize) -> Vec<i8> {
 
 fn main() {
     let inputs: u64 = std::env::args().nth(1).map_or(400_000, |n| n.parse().expect("the number of inputs"));
-    let mut all = Inputs { random: Random::new(1), codes: all(), places: [0; 63] };
+    let mut all = Inputs { random: Random::new(1), codes: all(), positions: [0; 63], powers: [0; 6] };
     let mut differ = 0;
     let calls: [(&str, fn(&mut Inputs) -> (u32, bool)); 3] = [("encode", Inputs::encode), ("read", Inputs::read), ("decode", Inputs::decode)];
     for (part, (call, one)) in calls.into_iter().enumerate() {
@@ -224,8 +229,9 @@ fn main() {
         println!("{call:<6} {share:>7} compared, {wrong} differ; results {}", given.join(", "));
         differ += wrong;
     }
-    let [one, three, five] = [1, 3, 5].map(|power| all.places[power]);
-    println!("       places of read's 9 and 10: {} of 0 to 62, among them 1: {one}, 3: {three}, 5: {five}", all.places.iter().filter(|&&n| n > 0).count());
+    let positions = all.positions.iter().filter(|&&n| n > 0).count();
+    let powers: Vec<String> = (0..6).filter(|&e| all.powers[e] > 0).map(|e| format!("{e}: {}", all.powers[e])).collect();
+    println!("       read's 9 at {positions} positions; its 10 at the powers {}", powers.join(", "));
     println!("all    {inputs:>7} compared, {differ} differ");
     std::process::exit(i32::from(differ > 0));
 }

@@ -1,4 +1,5 @@
-//! What encode, read, also of a word that it refuses, and decode cost, and decode in plain C (bench/plain.c), at all 36 codes and orders. `cost` prints the time of each call;
+//! What encode and read cost, read also where it refuses, and decode, proved and in plain C (bench/plain.c), at all 36 codes and orders.
+//! `cost` prints the time of each call;
 //! under callgrind `cost count` makes each call once a word, between two marks, and `cost FILE` prints instructions and entered patterns too,
 //! from the dumps that callgrind writes (bench/counts.rs). Of plain C's two versions the better one is printed, cell by cell. Every answer is
 //! compared: it fails where one differs.

@@ -1,4 +1,4 @@
-/* A host of the coding layer: a message is encoded, sent over a noisy path, decoded and read back; and a call is refused. In C and in C++.
+/* A host of the coding layer, in C and in C++: a message is encoded, sent over a noisy path, decoded and read back; and two calls are refused.
 
        cc host.c $(pkg-config --cflags --libs malligovu) -o host && ./host
 
@@ -25,9 +25,9 @@ static int8_t heard(int bit) {
     return value > 127 ? 127 : value < -128 ? -128 : (int8_t)value;
 }
 
-/* says which call was refused, and with which number */
-static int refused(const char *call, uint32_t number) {
-    printf("%s refused with %" PRIu32 "\n", call, number);
+/* says which call returned what it was not expected to */
+static int unexpected(const char *call, uint32_t number) {
+    printf("%s returned %" PRIu32 "\n", call, number);
     return 1;
 }
 
@@ -35,11 +35,11 @@ int main(void) {
     uint64_t message = 0x2a5f00c0de, back = 0;
     uint8_t sent[MALLIGOVU_MOST_BYTES], got[MALLIGOVU_MOST_BYTES];
     int8_t soft[MALLIGOVU_MOST_VALUES];
-    uint32_t figures[MALLIGOVU_FIGURES], number;
+    uint32_t figures[MALLIGOVU_FIGURES], number, place;
     int wrong = 0;
 
     number = malligovu_encode(M, T, S, message, sent, sizeof sent);
-    if (number != MALLIGOVU_TAKEN) return refused("encode", number);
+    if (number != MALLIGOVU_TAKEN) return unexpected("encode", number);
     for (int i = 0; i < BITS; i++) {
         int bit = sent[i / 8] >> i % 8 & 1;
         soft[i] = heard(bit);
@@ -48,17 +48,25 @@ int main(void) {
     printf("sent      %010" PRIx64 " in %d bits, %d of them heard wrongly\n", message, BITS, wrong);
 
     number = malligovu_decode(M, T, S, ORDER, soft, BITS, got, sizeof got, figures, MALLIGOVU_FIGURES);
-    if (number != MALLIGOVU_TAKEN) return refused("decode", number);
+    if (number != MALLIGOVU_TAKEN) return unexpected("decode", number);
     printf("decoded   soft distance %" PRIu32 ", %" PRIu32 " bits put right, %" PRIu32 " candidates\n", figures[MALLIGOVU_DISTANCE],
            figures[MALLIGOVU_FLIPS], figures[MALLIGOVU_CANDIDATES]);
 
     /* where S > 0 a decoded word may have a one that was never sent, and is then refused here */
     number = malligovu_read(M, T, S, got, sizeof got, &back, 1);
-    if (number != MALLIGOVU_TAKEN) return refused("read", number);
+    if (number != MALLIGOVU_TAKEN) return unexpected("read", number);
     printf("read      %010" PRIx64 "\n", back);
 
     /* one value is missing: nothing is written */
     number = malligovu_decode(M, T, S, ORDER, soft, BITS - 1, got, sizeof got, figures, MALLIGOVU_FIGURES);
-    if (number == MALLIGOVU_WRONG_COUNT) printf("refused   %" PRIu32 ", a count of values other than n - s\n", number);
-    return back != message || number != MALLIGOVU_WRONG_COUNT;
+    if (number != MALLIGOVU_WRONG_COUNT) return unexpected("decode", number);
+    printf("refused   %" PRIu32 ", a count of values other than n - s\n", number);
+
+    /* two ones above the 60 bits that are sent, at 61 and 62: the number says what is wrong, and malligovu_fault where */
+    sent[7] |= 1 << 5 | 1 << 6;
+    number = malligovu_read(M, T, S, sent, sizeof sent, &back, 1);
+    if (number != MALLIGOVU_UNSENT_BIT) return unexpected("read", number);
+    place = malligovu_fault(M, T, S, sent, sizeof sent);
+    printf("refused   %" PRIu32 ", a one at the unsent position %" PRIu32 "\n", number, place);
+    return back != message || place != 61;
 }

@@ -14,9 +14,9 @@
    A word is its n bits in W bytes: bit j is bit j mod 8 of byte j div 8. Message bit i, for i below k - s, stands at position
    n - k + i, the parity below them all, and zeros above.
 
-   Each function returns 0, or the number of the first refusal that applies, in the order that stands at the function. Where it
-   returns any number but 0, nothing is written anywhere. Where it returns 0, it has written what stands at the function, and
-   nothing past that.
+   Each function but malligovu_fault returns 0, or the number of the first refusal that applies, in the order that stands at the
+   function. Where it returns any number but 0, nothing is written anywhere. Where it returns 0, it has written what stands at the
+   function, and nothing past that.
 
    Any number may be passed for m, t, s, order and the message, and any length. A pointer points to as many values as the length
    after it says and is aligned for them; a null pointer goes only with a length of 0. Memory that is written overlaps no other.
@@ -36,9 +36,9 @@ extern "C" {
 
 /* The number of the last change request that is in the library, 0 for none: requests 1 to this one are in. It goes up with each, so
    that a host can test when it is compiled what it has, `#if MALLIGOVU_VERSION >= 1`. It is this header's, not that of a shared
-   library which is loaded later. 1: in the program a header of three numbers means order t; no function changed. CHANGES.md in the
-   source has more. */
-#define MALLIGOVU_VERSION 1
+   library which is loaded later. 1: in the program a header of three numbers means order t; no function changed. 2: what
+   malligovu_read refused with 8 it refuses with 8, 9 or 10, and malligovu_fault tells where. CHANGES.md in the source has more. */
+#define MALLIGOVU_VERSION 2
 
 /* The most of any code: the bytes of a word, W, and the soft values of a received word, n - s. */
 #define MALLIGOVU_MOST_BYTES 8
@@ -54,7 +54,11 @@ enum malligovu_refusal {
     MALLIGOVU_SMALL_BUFFER = 5,     /* there are fewer than W bytes */
     MALLIGOVU_NO_CANDIDATE = 6,     /* no candidate exists */
     MALLIGOVU_LARGE_MESSAGE = 7,    /* the message is 2^(k-s) or more */
-    MALLIGOVU_UNREADABLE = 8        /* the word is no codeword, or its pad bit or an unsent bit is 1 */
+    /* 8 has become narrower: before version 2 it stood for 9 and 10 too, under the name MALLIGOVU_UNREADABLE. That name is gone, so
+       that a host which compares with it does not compile until it compares with all three. */
+    MALLIGOVU_PAD_BIT = 8,          /* bit n of the word's bytes, the one above its n bits, is 1 */
+    MALLIGOVU_UNSENT_BIT = 9,       /* a bit at an unsent position, n - s to n - 1, is 1 */
+    MALLIGOVU_MISSING_ROOT = 10     /* the word is no codeword: one at least of a, a^2, .., a^(2t) is no root of it */
 };
 
 /* Where decode's figures stand, and how many there are; a later version adds some only at the end. */
@@ -70,12 +74,19 @@ enum malligovu_figure {
    Writes: the word into the first W bytes of `word`. */
 uint32_t malligovu_encode(uint32_t m, uint32_t t, uint32_t s, uint64_t message, uint8_t *word, size_t word_length);
 
-/* Reads the message of the word in the first W bytes of `word`; corrects nothing. Where s > 0 it may refuse, with 8, a word that
+/* Reads the message of the word in the first W bytes of `word`; corrects nothing. Where s > 0 it may refuse, with 9, a word that
    decode wrote: one that has a one at an unsent position, and so was not sent.
-   Refuses: 1, 2, 5, 8.
+   Refuses: 1, 2, 5, 8, 9, 10.
    Writes: the message into message[0]; nothing where `message_length` is 0. */
 uint32_t malligovu_read(uint32_t m, uint32_t t, uint32_t s, const uint8_t *word, size_t word_length, uint64_t *message,
                         size_t message_length);
+
+/* Tells what a refusal of malligovu_read says beside its number, for the same code and word: with 9 the lowest unsent position that
+   holds a 1; with 10 the lowest power of a at which the word is not zero, 1, 3 or 5; and 0 where malligovu_read returns another
+   number. It is no refusal's number, and 0 does not say that the word was accepted: ask for it where malligovu_read has returned 9
+   or 10.
+   Writes: nothing. */
+uint32_t malligovu_fault(uint32_t m, uint32_t t, uint32_t s, const uint8_t *word, size_t word_length);
 
 /* Decodes `soft_length` soft values, position 0 first: a value below 0 stands for bit 1, and its size is its reliability. Of the
    candidates, the codewords that differ from the received bits in at most `order` (0 to 3) of the n - 2t most reliable positions

@@ -52,7 +52,7 @@ module _ (m t s : ℕ) (bytes : List ℕ) where
   answers-as-reading y (ReadAnswers.unsent e at u h) =
       let p = passed m t s bytes e in
       h ∙ sym (checked 0 e ∙ reading-unsent m t s (wordIn m bytes) (p .known) (p .short) (word-wide m t s bytes e) at u)
-  answers-as-reading y (ReadAnswers.rootless e at u h) =
+  answers-as-reading y (ReadAnswers.missing-root e at u h) =
       let p = passed m t s bytes e in
       h ∙ sym (checked 0 e ∙ reading-root m t s (wordIn m bytes) (p .known) (p .short) (word-wide m t s bytes e) at u)
   answers-as-reading y (ReadAnswers.taken e u h) =

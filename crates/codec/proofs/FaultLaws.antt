@@ -45,7 +45,7 @@ module _ (m t s w : ℕ) where
   abbrev sent : ℕ
   sent = n - s
 
-  -- the lowest unsent position that is not 0, and the lowest power at which the word is not
+  -- the lowest unsent position that holds a 1, and the lowest power at which the word is not zero
   abbrev position : ℕ
   position = lowestOf sent s (bitOf w)
 
@@ -122,7 +122,7 @@ module _ (m t s w : ℕ) where
     searched : w < 2 ^ n → Outcome
     searched l =
         ⊎-elim (λ z. rooted l (none-from w sent n (omega arith) l (λ p a b. z p a (omega arith))))
-        (λ k. unsent (record { pad = bit-high w n n l (omega arith); lowest = k }))
+        (λ k. unsent (record { pad = omega (arith, bit-high w n n l (omega arith)); lowest = k }))
         (lowest-cases (bitOf w) sent s)
 
     pub outcome : Outcome

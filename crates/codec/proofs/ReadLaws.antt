@@ -101,7 +101,7 @@ module _ (m t s : ℕ) (bytes : List ℕ) where
         go (accepted r) = ReadAnswers.taken e r (reading-taken m t s word (passed .known) (passed .short) word-wide r)
         go (pad u) = ReadAnswers.padded e u (reading-pad m t s word (passed .known) (passed .short) word-wide u)
         go (unsent u) = ReadAnswers.unsent e _ u (reading-unsent m t s word (passed .known) (passed .short) word-wide _ u)
-        go (root u) = ReadAnswers.rootless e _ u (reading-root m t s word (passed .known) (passed .short) word-wide _ u)
+        go (root u) = ReadAnswers.missing-root e _ u (reading-root m t s word (passed .known) (passed .short) word-wide _ u)
 
   module _ (N : ℕ) (e : N ≡ readRefusal m t s (length bytes)) where
     pub read-refuses : 0 < N → ReadAnswers m t s bytes (says N 0)

@@ -77,7 +77,7 @@ read-then-encode m t s message bytes small (ReadAnswers.padded e f h) answer aft
     absurd (let z : _≡_ {A = ℕ} 0 8 = ap (λ (x : Reading). x .refusal) h in omega arith)
 read-then-encode m t s message bytes small (ReadAnswers.unsent e p f h) answer after a =
     absurd (let z : _≡_ {A = ℕ} 0 9 = ap (λ (x : Reading). x .refusal) h in omega arith)
-read-then-encode m t s message bytes small (ReadAnswers.rootless e p f h) answer after a =
+read-then-encode m t s message bytes small (ReadAnswers.missing-root e p f h) answer after a =
     absurd (let z : _≡_ {A = ℕ} 0 10 = ap (λ (x : Reading). x .refusal) h in omega arith)
 read-then-encode m t s message bytes small (ReadAnswers.taken e r h) answer after a =
     written-again m t s bytes small e r answer after

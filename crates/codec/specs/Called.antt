@@ -1,5 +1,6 @@
 -- The calls encode and read as functions from what they are given to what they give back: the checks, then the word of a message, the
--- message of a word. Each is the one function that its contract permits (proofs/CalledLaws). Everything here computes.
+-- message of a word. Each is the one function that its contract permits (proofs/CalledLaws, proofs/CodecOneAnswer). Everything here
+-- computes.
 --   encodingOf m t s message before   what encode gives back
 --   faultOf m t s w                   what read says of a word that it does not accept
 --   readingOf m t s bytes             what read gives back
@@ -31,7 +32,7 @@ encodingOf m t s message before = encodingAfter (encodeRefusal m t s message (le
 abbrev pub readable : (m t s w : ℕ) → Bool
 readable m t s w = ltb w (2 ^ (lengthOf m - s)) && eqb (systematic m t (w / 2 ^ parityOf m t)) w
 
--- "8 pad bit, then 9 unsent bit, then 10 root": a word of n bits has no pad bit, one of n-s bits no unsent one either
+-- the pad bit of a number below 2^n is 0, and below 2^(n-s) the unsent bits are too
 unfoldable pub faultOf : (m t s w : ℕ) → Reading
 faultOf m t s w =
     cond (ltb w (2 ^ lengthOf m))

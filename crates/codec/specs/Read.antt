@@ -1,6 +1,6 @@
 -- The read call: its one permitted answer; it writes nothing (document 01, "What each call says no to"; Req 02).
 --   Readable m t s w      w is a codeword whose pad bit and unsent bits are 0
---   UnsentFault m s w p   9: the pad bit is 0, and p is the lowest unsent position that is not
+--   UnsentFault m s w p   9: the pad bit is 0, and p is the lowest unsent position that holds a 1
 --   RootFault m t s w e   10: no bit from n-s on is 1, and e is the lowest power at which w is not zero
 --   ReadAnswers m t s bytes answer   the call's contract
 -- Assumes nothing.
@@ -42,7 +42,7 @@ pub data ReadAnswers (m t s : ℕ) (bytes : List ℕ) (answer : Reading) : Type 
       → ReadAnswers m t s bytes answer
   unsent : readRefusal m t s (length bytes) ≡ 0 → (p : ℕ) → UnsentFault m s (wordIn m bytes) p → answer ≡ faultAt 9 p
       → ReadAnswers m t s bytes answer
-  rootless : readRefusal m t s (length bytes) ≡ 0 → (e : ℕ) → RootFault m t s (wordIn m bytes) e → answer ≡ faultAt 10 e
+  missing-root : readRefusal m t s (length bytes) ≡ 0 → (e : ℕ) → RootFault m t s (wordIn m bytes) e → answer ≡ faultAt 10 e
       → ReadAnswers m t s bytes answer
   taken : readRefusal m t s (length bytes) ≡ 0 → Readable m t s (wordIn m bytes) → answer ≡ says 0 (wordIn m bytes / 2 ^ parityOf m t)
       → ReadAnswers m t s bytes answer

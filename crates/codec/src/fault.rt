@@ -21,8 +21,8 @@ fn lowest_one(word: u64, from: usize) -> u8
     (from + u64::trailing_zeros(word >> from) as usize) as u8
 }
 
-// "8 pad bit, then 9 unsent bit, then 10 root." What is left of the word when the codeword with its high bits is taken off has the word's
-// values at the roots, and fewer bits.
+// The pad bit, then the unsent bits, then the roots. What is left of the word when the codeword with its message is taken off has the
+// word's values at the code's roots, and fewer bits.
 pub fn fault_of(m: u16, t: u16, s: u16, word: u64) -> Reading
     requires { ⌜ Known m t × (s < dimensionOf m t) ⌝ }
     ensures { λ r. ⌜ r ≡ faultOf m t s word ⌝ }

@@ -27,14 +27,15 @@ pub fn encode(m: u16, t: u16, s: u16, message: u64, buf: &mut [u8]) -> u8
     TAKEN
 }
 
-// What read answers: 0 and the message; or a refusal's number and message 0, with 9 the position, with 10 the power at which the word
-// fails, and else 0.
+// What read answers: 0 and the message, or a refusal's number and message 0. `at` is with 9 the lowest unsent position that holds a 1, with
+// 10 the lowest power at which the word is not zero, and in every other answer 0.
 pub struct Reading {
     pub refusal: u8,
     pub message: u64,
     pub at: u8,
 }
 
+// A refusal, with its place or 0.
 fn refuse(number: u8, at: u8) -> Reading
     ensures { λ r. ⌜ r ≡ faultAt number at ⌝ }
 {

@@ -5,7 +5,7 @@
 --   PlacesFixAWord          n - r places fix a word with r roots: the others are its Lagrange sums
 --   CellsAreThePapers         with the first root a^1 a cell is document 01's product
 --   CellsAreShort             a cell by the places outside
---   FaultyPowersAreOdd        the lowest power at which a binary word is not zero is odd
+--   FaultyPowersAreOdd        the lowest power, from 1 on, at which a binary word is not zero is odd
 -- Assumes nothing.
 use mathlib.Core.Path.{_≡_}
 use mathlib.Core.Logic.{_≢_, _↔_}

@@ -30,7 +30,7 @@ use Rattle.demands.specs.Demand1.{EncodeFixed, ReadFixed, DecodeFixed, D
 use Rattle.demands.specs.Decodes.{Among, Decodes}
 use Rattle.demands.specs.Demand2.{Encodes, Reads, Demand2}
 use Rattle.demands.specs.Ours.{ours}
-use Rattle.demands.proofs.SaysWhereShown.{is-taken, is-padded, is-unsent, is-rootless, unsent-lowest, root-lowest}
+use Rattle.demands.proofs.SaysWhereShown.{is-taken, is-padded, is-unsent, is-missing-root, unsent-lowest, root-lowest}
 
 module _ (m t s message : ℕ) (before : List ℕ) (y : Encoding) where
   encode-fixed : EncodeAnswers m t s message before (y .answer) (y .after) → EncodeFixed m t s message before y
@@ -61,7 +61,7 @@ module _ (m t s : ℕ) (bytes : List ℕ) (y : Reading) where
   read-fixed (ReadAnswers.refused n h) = record { refused = λ _. h; passed = λ e. absurd (n e) }
   read-fixed (ReadAnswers.padded e f h) = record { refused = λ n. absurd (n e); passed = λ _. inr (inl h) }
   read-fixed (ReadAnswers.unsent e p f h) = record { refused = λ n. absurd (n e); passed = λ _. inr (inr (inl (at-fault 9 p h))) }
-  read-fixed (ReadAnswers.rootless e p f h) = record { refused = λ n. absurd (n e); passed = λ _. inr (inr (inr (at-fault 10 p h))) }
+  read-fixed (ReadAnswers.missing-root e p f h) = record { refused = λ n. absurd (n e); passed = λ _. inr (inr (inr (at-fault 10 p h))) }
   read-fixed (ReadAnswers.taken e r h) = record { refused = λ n. absurd (n e); passed = λ _. inl (ap (λ (z : Reading). z .refusal) h) }
 
   -- a word with a fault has a lowest, and that is read's only answer (proofs/SaysWhereShown)
@@ -81,7 +81,7 @@ module _ (m t s : ℕ) (bytes : List ℕ) (y : Reading) where
         );
     root = λ z i l h n.
         let k = root-lowest m t s bytes z i l h n in
-        let q = is-rootless m t s bytes y e a _ k in
+        let q = is-missing-root m t s bytes y e a _ k in
         let u = at-place (Lowest 1 (2 * t) (valueAt m (bitOf (wordIn m bytes)))) 10 _ q (k .lowest) in (
           at-fault 10 _ q,
           u .low,

@@ -122,7 +122,7 @@ module _ (x : Calls) (first : Demand1 x) (second : Demand2 x) where
         let k = u .lowest in
         let h = k .high in
         let found = root-at (u .clear) i (k .low) h (k .nonzero) in
-        ReadAnswers.rootless e _ (record {
+        ReadAnswers.missing-root e _ (record {
           clear = u .clear;
           lowest = lowest-by (valueAt m (bitOf w)) 1 (2 * t) (y .at) (found .1) (omega (arith, found .3)) (found .2)
               (λ j l h f. root-at (u .clear) j l h f .3);
@@ -133,7 +133,7 @@ module _ (x : Calls) (first : Demand1 x) (second : Demand2 x) where
   read-keeps m t s bytes (ReadAnswers.refused n _) = ReadAnswers.refused n (first .read m t s bytes .refused n)
   read-keeps m t s bytes (ReadAnswers.padded e u _) = ReadAnswers.padded e u (second .read m t s bytes e .pad u)
   read-keeps m t s bytes (ReadAnswers.unsent e p u _) = unsent-keeps m t s bytes e p u
-  read-keeps m t s bytes (ReadAnswers.rootless e i u _) = root-keeps m t s bytes e i u
+  read-keeps m t s bytes (ReadAnswers.missing-root e i u _) = root-keeps m t s bytes e i u
   read-keeps m t s bytes (ReadAnswers.taken e r _) =
       ReadAnswers.taken e r (second .read m t s bytes e .some _ (record { codeword = r .codeword; high = refl; unsent = r .unsent }))
 

@@ -16,7 +16,7 @@ use Rattle.search.specs.Claims.{BestIsNearest, CandidatesAreCounted, NothingIsM
 use Rattle.search.proofs.ClaimsShown as search-shown
 use Rattle.sent.specs.Claims.{SmallestAreLeast, OthersAreFarther, SentIsNearest}
 use Rattle.sent.proofs.ClaimsShown as sent-shown
-use Rattle.words.proofs.PackedBits.{packed-bit}
+use Rattle.words.proofs.PackedBits.{packed-bit, unpacked-bit}
 use Rattle.codec.proofs.CodecOneAnswer as codec
 use Rattle.codec.proofs.RoundTrip as trip
 use Rattle.codec.proofs.encode.Statement as encode-stated
@@ -52,9 +52,9 @@ use Rattle.demands.specs.Wrong.{WrongVersionsExist}
 use Rattle.settled.specs.Settled.{settled, Each}
 use Rattle.demands.specs.OneAnswer.{EncodeHasOneAnswer, ReadHasOneAnswer, DecodeHasOneAnswer, DecodeTellsOneAnswer}
 use Rattle.demands.specs.OneAnswer.{ReadTellsOneAnswer, FaultTellsOneAnswer}
-use Rattle.demands.specs.Packed.{BitsArePacked}
+use Rattle.demands.specs.Packed.{BitsArePacked, BitsAreUnpacked}
 use Rattle.demands.specs.BringsBack.{ReadBringsBack, EncodeWritesAgain}
-use Rattle.demands.specs.SaysWhere.{ReadSaysWhere, ReadableWhereNoFault, FaultGoesWithRead}
+use Rattle.demands.specs.SaysWhere.{ReadSaysWhere, ReadableWhereNoFault, DecodedIsReadOrUnsent, FaultGoesWithRead}
 use Rattle.demands.proofs.ContractsMeetDemands.{meets-first, meets-second, ours-answer}
 use Rattle.demands.proofs.DemandsAreContracts.{contracts-kept, encode-as-ours, read-as-ours, decode-as-ours}
 use Rattle.demands.proofs.SaysWhereShown as where-shown
@@ -215,6 +215,9 @@ module _ (m b r tau : ℕ) (soft : List ℤ) (c : ℕ) where
 pub bits-are-packed : BitsArePacked
 bits-are-packed = packed-bit
 
+pub bits-are-unpacked : BitsAreUnpacked
+bits-are-unpacked = unpacked-bit
+
 pub encode-has-one-answer : EncodeHasOneAnswer
 encode-has-one-answer = codec.encode-one-answer
 
@@ -238,6 +241,9 @@ read-says-where = where-shown.read-says-where
 
 pub readable-where-no-fault : ReadableWhereNoFault
 readable-where-no-fault = where-shown.readable-where-no-fault
+
+pub decoded-is-read-or-unsent : DecodedIsReadOrUnsent
+decoded-is-read-or-unsent = where-shown.decoded-is-read-or-unsent
 
 pub fault-goes-with-read : FaultGoesWithRead
 fault-goes-with-read = where-shown.fault-goes-with-read

@@ -1,6 +1,6 @@
 -- What is claimed of the demands. Each claim is proved under its name in proofs/Theorems, which goes on to the compiled functions: they
--- give back what ours give. Rejected has the versions that must not pass, OneAnswer that the contracts permit one answer, and
--- settled/specs the paper's examples.
+-- give back what ours give. Rejected has the versions that must not pass, OneAnswer that the contracts permit one answer, SaysWhere which
+-- check of a word read failed, and settled/specs the paper's examples.
 --   ContractsMeetDemands     whatever keeps the contracts of encode, read and decode meets the demands
 --   OursMeetDemands          the functions that the three calls compute meet them
 --   DemandsAreContracts      and what meets demands 1 and 2 keeps the contracts: the demands ask no less

@@ -22,7 +22,7 @@ pub record EncodeFixed (m t s message : ℕ) (before : List ℕ) (y : Encoding) 
       → y ≡ record { answer = encodeRefusal m t s message (length before); after = before }
   pub passed : encodeRefusal m t s message (length before) ≡ 0 → y .answer ≡ 0
 
--- where no check is met, read succeeds or refuses the word: with 8, with 9 and its position, or with 10 and its power (Req 02)
+-- where no check is met, read succeeds or refuses the word: with 8, or with 9 or 10 and a place (Req 02), which demand 2 fixes
 pub record ReadFixed (m t s : ℕ) (bytes : List ℕ) (y : Reading) : Type 0 where
   pub refused : readRefusal m t s (length bytes) ≢ 0 → y ≡ says (readRefusal m t s (length bytes)) 0
   pub passed : readRefusal m t s (length bytes) ≡ 0

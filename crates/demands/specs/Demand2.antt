@@ -35,8 +35,8 @@ pub record Encodes (m t s message : ℕ) (before : List ℕ) (y : Encoding) : Ty
   pub gives : y ≡ record { answer = 0; after = written m word before }
 
 -- the message whose word stands in the first W bytes; where that is the word of no message, "8 pad bit, then 9 unsent bit, then 10 root",
--- with "the lowest unsent position at fault, or the lowest power at which the word is not zero" (Req 02): one that is at fault, and at most
--- any other that is. Bit n is the pad bit, and the unsent positions are n-s, .., n-1
+-- with "the lowest unsent position at fault, or the lowest power at which the word is not zero" (Req 02): one that is at fault, and no
+-- higher than any other that is. Bit n is the pad bit, and the unsent positions are n-s, .., n-1
 pub record Reads (m t s : ℕ) (bytes : List ℕ) (y : Reading) : Type 0 where
   pub some : (message : ℕ) → WordOf m t s message (wordIn m bytes) → y ≡ says 0 message
   pub pad : bitOf (wordIn m bytes) (lengthOf m) ≡ 1 → y ≡ says 8 0

@@ -101,7 +101,7 @@ module _ {m t s m₁ t₁ s₁ : ℕ} (on-m : Narrows m m₁) (on-t : Narrows t 
     read-narrow (ReadAnswers.refused n e) = ReadAnswers.refused (λ z. n (read-alike ∙ z)) (e ∙ ap (λ (N : ℕ). says N 0) read-alike)
     read-narrow (ReadAnswers.padded z f e) = read-taken z (ReadAnswers.padded z f e)
     read-narrow (ReadAnswers.unsent z p f e) = read-taken z (ReadAnswers.unsent z p f e)
-    read-narrow (ReadAnswers.rootless z p f e) = read-taken z (ReadAnswers.rootless z p f e)
+    read-narrow (ReadAnswers.missing-root z p f e) = read-taken z (ReadAnswers.missing-root z p f e)
     read-narrow (ReadAnswers.taken z f e) = read-taken z (ReadAnswers.taken z f e)
 
   module _ {order order₁ : ℕ} (on-order : Narrows order order₁) (soft : List ℤ) (before : List ℕ) where

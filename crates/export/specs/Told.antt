@@ -1,5 +1,5 @@
 -- What a C host is told: the number of a call's answer as the result, and where that is 0 the answer's other fields in lent
--- memory; encode's answer is its number alone.
+-- memory; encode's answer is its number alone. What a refusal says beside its number is the result of a call of its own.
 --   placed numbers before     the lent memory with the numbers over its first places, as many as it has room for
 --   told N numbers before     the same where the number N is 0; else the lent memory as it was
 --   ReadTold, DecodeTold      the contract of the call of that name; `left` is what stands in the lent memory afterwards

@@ -63,6 +63,7 @@ pub extern "C" fn malligovu_encode(m: u32, t: u32, s: u32, message: u64, word: &
     codec::encode(narrow(m), narrow(t), narrow(s), message, word) as u32
 }
 
+// Read's answer, for a host's numbers.
 fn reading_of(m: u32, t: u32, s: u32, word: &[u8]) -> codec::Reading
     ensures { λ r. ⌜ ReadAnswers m t s (now (word .entry)) r ⌝ }
 {

@@ -53,8 +53,7 @@ codeRefusal m t s = firstMet (unknownCode m t ∷ tooShort m t s ∷ [])
 unfoldable pub headerRefusal : ℕ → ℕ → ℕ → ℕ → ℕ
 headerRefusal m t s order = firstMet (unknownCode m t ∷ tooShort m t s ∷ highOrder order ∷ [])
 
--- "in this order: encode 1, 2, 7, 5; decode 1, 2, 3, 4, 5, 6; read 1, 2, 5", and then of the word "8 pad bit, then 9 unsent bit, then 10
--- root" (Req 02)
+-- "in this order: encode 1, 2, 7, 5; decode 1, 2, 3, 4, 5, 6; read 1, 2, 5, 8"; Req 02 has made 8, 9 and 10, in this order, of read's 8
 unfoldable pub encodeRefusal : ℕ → ℕ → ℕ → ℕ → ℕ → ℕ
 encodeRefusal m t s message room = firstMet (unknownCode m t ∷ tooShort m t s ∷ largeMessage m t s message ∷ smallBuffer m room ∷ [])
 

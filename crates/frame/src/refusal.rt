@@ -30,7 +30,7 @@ pub const NO_CANDIDATE: u8 = 6;
 
 pub const LARGE_MESSAGE: u8 = 7;
 
-// The reader's own: the pad bit is 1; an unsent bit is 1; the word is not zero at a root.
+// The reader's own: the pad bit is 1; an unsent bit is 1; a root of the code is none of the word.
 pub const PAD_BIT: u8 = 8;
 
 pub const UNSENT_BIT: u8 = 9;

@@ -23,8 +23,8 @@ pub fn value_at(m: u8, word: u64, e: u8) -> u8
     sum
 }
 
-// The lowest of the powers 1, .., 2t at which the word is not zero; 2t + 1 where it is zero at all of them. It is odd, so that only the
-// odd ones are looked at.
+// The lowest of the powers 1, .., 2t at which the word is not zero; 2t + 1 where it is zero at all of them. Only the odd ones are looked
+// at, since it is one of those (FaultyPowersAreOdd).
 pub fn lowest_power(m: u8, t: u8, word: u64) -> u8
     requires { ⌜ (4 ≤ m) × (m ≤ 6) × (t ≤ 3) × (word < 2 ^ lengthOf m) ⌝ }
     ensures { λ r. ⌜ r ≡ lowestOf 1 (2 * t) (valueAt m (bitOf word)) ⌝ }

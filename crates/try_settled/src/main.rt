@@ -1,4 +1,5 @@
-// Runs the examples and the refusals of document 01 ('Settled examples', 'What each call says no to'), a line of the file `stdin` a case.
+// Runs the examples and the refusals of document 01 ('Settled examples', 'What each call says no to') and of Req 02, a line of the file
+// `stdin` a case.
 //
 // A line is printed with what its call answers in the place of its question marks: numbers, and then the bytes of the buffer. The file
 // `stdout` has the paper's answers. A lent buffer is filled with ff before the call and all of it is printed after the call, so a line

@@ -20,7 +20,7 @@ unfoldable pub packed : ℕ → ℕ → List ℕ
 packed w zero = []
 packed w (suc n) = w % 256 ∷ packed (w / 256) n
 
--- a number that is no byte counts by its low eight bits, so that n bytes have 8n bits whatever is given
+-- the same read back; a number that is no byte counts by its low eight bits, so that n bytes have 8n bits whatever is given
 unfoldable pub unpacked : List ℕ → ℕ → ℕ
 unpacked bytes zero = 0
 unpacked [] (suc n) = 0
