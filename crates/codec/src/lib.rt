@@ -1,4 +1,6 @@
 // The encode call and the read call: for any input whatever, the paper's one answer.
+#![tactic(auto)]
+
 ghost use Rattle.std.specs.Prelude.{◌≡◌};
 ghost use Rattle.codec.specs.GivenBack.{fault_at};
 ghost use Rattle.codec.specs.Encode.{EncodeAnswers};

@@ -1,4 +1,6 @@
 // The decode call: for any input whatever, the paper's one answer.
+#![tactic(auto)]
+
 ghost use Rattle.std.specs.Prelude.{◌≡◌};
 ghost use Rattle.decode.specs.Decode.{DecodeAnswers};
 ghost use Rattle.decode.specs.Call.{refusing};

@@ -1,5 +1,7 @@
 // For try_random: every word of 15 bits, with the pad bit and without it, read and compared with a reader that tries every position and
 // every power.
+#![tactic(auto)]
+
 ghost use Rattle.std.specs.Prelude.{◌≤◌, ◌<◌};
 
 use exhaustive::reader::{Told, read};

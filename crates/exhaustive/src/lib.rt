@@ -1,5 +1,7 @@
 // What decode and read have to answer on a word of 15 bits, and what demand 3 supposes, by the definitions of document 01 and Req 02 and
 // nothing of the decoder's or the reader's: for try_random, which compares.
+#![tactic(auto)]
+
 pub mod received; // received words
 pub mod roots; // the codewords by their roots
 pub mod candidates; // the search over all codewords

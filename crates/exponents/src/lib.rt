@@ -1,5 +1,7 @@
 // Exponents: the powers of a, and Zech's logarithms, by which a sum of powers is a power. The tables are in hexadecimal, a number
 // for each of 0, .., 127: an exponent below n and another together are below that.
+#![tactic(auto)]
+
 ghost use Rattle.std.specs.Prelude.{◌≤◌};
 ghost use Rattle.exponents.specs.Exponent.{Powers, Zech};
 

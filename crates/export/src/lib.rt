@@ -1,5 +1,7 @@
 // The calls for C hosts: numbers and lent memory in, a refusal's number out, and what a refusal says beside its number from a call of its
 // own that writes nothing.
+#![tactic(auto)]
+
 ghost use Rattle.std.specs.Prelude.{◌≡◌, [], ◌∷◌, set};
 ghost use Rattle.codec.specs.Encode.{EncodeAnswers};
 ghost use Rattle.codec.specs.Read.{ReadAnswers};

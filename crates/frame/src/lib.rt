@@ -1,4 +1,6 @@
 // What each call refuses before it looks at a word, and the refusals' numbers.
+#![tactic(auto)]
+
 pub mod refusal; // the numbers, and the first check that is met, in each call's order
 
 pub use refusal::{

@@ -1,5 +1,7 @@
 // Field arithmetic on elements of the fields of 2^m elements, m = 4, 5, 6 (document 01, "Fields and codes"): product, inverse and power.
 // read multiplies by powers of a; no call uses the product of two elements or the inverse, since decode goes by exponents.
+#![tactic(auto)]
+
 mod tables; // the inverses
 
 ghost use Rattle.std.specs.Prelude.{◌≡◌, ◌^◌, ◌<◌, ◌≤◌};

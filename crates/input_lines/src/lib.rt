@@ -1,3 +1,5 @@
 // What a line of the input says, as functions on slices: the header, and the values of a word line.
+#![tactic(auto)]
+
 pub mod header; // header.rt: the first line
 pub mod word_line; // word_line.rt: the values of a word line

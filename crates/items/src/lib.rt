@@ -1,4 +1,6 @@
 // What stands between two spaces of a line, as a number: numbers of all lines are read here.
+#![tactic(auto)]
+
 ghost use Rattle.std.specs.Prelude.{◌≡◌, ◌&&◌, ◌+◌, ◌≤◌, length, drop};
 ghost use Rattle.items.specs.Line.{is_digit as Line·isDigit};
 ghost use Rattle.items.specs.Scan.{spoiled as Scan·spoiled, first_item, found_at, closed_at, minus_at, holds_number};

@@ -1,4 +1,6 @@
 // The product: standard input to standard output, a read at a time. All that a read answers is written before the next.
+#![tactic(auto)]
+
 mod usage;
 
 ghost use Rattle.std.specs.Prelude.{◌≡◌, ◌≤◌, length};

@@ -1,4 +1,6 @@
 // The lines that are printed, put into a lent slice.
+#![tactic(auto)]
+
 ghost use Rattle.std.specs.Prelude.{◌≡◌, ◌+◌, ◌*◌, ◌≤◌, ◌<◌, length};
 ghost use Rattle.io.specs.Digits.{hex_digit_ascii as Digits·glyph};
 ghost use Rattle.output_lines.specs.Output.{decimal, hex_of, figure, header_line, line_line, refused_line, ok_line};

@@ -1,4 +1,6 @@
 // A word that is prepared: what stays for all patterns, made once a word.
+#![tactic(auto)]
+
 mod by_rank; // what is by position, by rank
 mod unflipped; // the symbols of the unflipped pattern
 

@@ -1,4 +1,6 @@
 // Hard decisions and reliabilities: of a value, and of all the values that were received.
+#![tactic(auto)]
+
 ghost use Rattle.std.specs.Prelude.{◌≡◌, ◌≤◌, length, nat_abs};
 ghost use Rattle.codes.specs.Codeword.{word_of};
 ghost use Rattle.soft.specs.Value.{hard_of, hard};

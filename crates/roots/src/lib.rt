@@ -1,4 +1,6 @@
 // The value of a word at a power of a, and the lowest power at which it is not zero (Req 02).
+#![tactic(auto)]
+
 ghost use Rattle.std.specs.Prelude.{◌≡◌, ◌*◌, ◌^◌, ◌≤◌, ◌<◌};
 ghost use Rattle.field.specs.Field.{length_of};
 ghost use Rattle.field.specs.Lowest.{lowest_of};

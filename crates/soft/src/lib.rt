@@ -1,1 +1,2 @@
 // Hard decisions, reliabilities, the order of positions, the soft distance, candidates: definitions in specs/, laws in proofs/, no code.
+#![tactic(auto)]

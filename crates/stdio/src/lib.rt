@@ -1,5 +1,7 @@
 // Standard input and output. A call that was interrupted is to be made again, and one that was not ready too, a little later. Any other
 // failure is said in a line on standard error.
+#![tactic(auto)]
+
 ghost use Rattle.std.specs.Prelude.{◌≤◌, length};
 ghost use Rattle.stdio.specs.Outcome.{Means, Within};
 

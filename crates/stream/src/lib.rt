@@ -1,4 +1,6 @@
 // The program as a step over a block of its input: no input and no output of its own.
+#![tactic(auto)]
+
 ghost use Rattle.std.specs.Prelude.{◌≡◌, ◌*◌, ◌≤◌, length};
 ghost use Rattle.lines.specs.Awaited.{is_ended};
 ghost use Rattle.lines.specs.Memory.{end_says};

@@ -1,6 +1,8 @@
 // The symbol table, by exponents. A cell is a quotient of products over the places outside (codes/specs/Lagrange, `short_cell`). The
 // factors a^u that their sums have by Zech's logarithms z are the same above and below: the exponent of the cell of position p, in
 // the row of the place u, is e(p) - e(u) - z(p-u), with e as products.rt makes it.
+#![tactic(auto)]
+
 ghost use Rattle.std.specs.Prelude.{◌≡◌, ◌<◌, ◌≤◌, length};
 ghost use Rattle.ranks.specs.Places.{place_in};
 ghost use Rattle.table.specs.Exponents.{Below, Outside};

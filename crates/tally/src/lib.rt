@@ -1,4 +1,6 @@
 // For try_random: what was seen of a call, and what is counted over all words of a code, each count at its place, and printed.
+#![tactic(auto)]
+
 ghost use Rattle.std.specs.Prelude.{◌<◌};
 
 use exhaustive::candidates::one_more;

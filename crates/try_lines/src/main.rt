@@ -10,6 +10,8 @@
 // A line that starts with no small letter is a title, and has no answer. Any other is a bad case, and so is one of more than 1,024 bytes.
 // In a TEXT a backslash and two hexadecimal digits are a byte: so stand bytes that are no printable character, a bar and a closing bracket.
 // The file `stdout` has what the paper and the requests say, written by other means.
+#![tactic(auto)]
+
 mod printed; // what is printed
 mod quoted; // texts in brackets, and the bytes that they spell
 mod cases; // a case and its answer

@@ -3,6 +3,8 @@
 //
 // Random words of every code, shortening and order, and words sent with the wrong bits' sum at the edge of demand 3: one below the bound,
 // and at it. The file `stdout` has the counts.
+#![tactic(auto)]
+
 ghost use Rattle.std.specs.Prelude.{◌≤◌};
 
 use crate::compare::compare;

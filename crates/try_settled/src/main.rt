@@ -5,6 +5,8 @@
 // `stdout` has the paper's answers. A lent buffer is filled with ff before the call and all of it is printed after the call, so a line
 // shows what was written and what was left. A line that begins with # is not printed. Any other that is no call, or too long for one, is
 // printed as it is.
+#![tactic(auto)]
+
 ghost use Rattle.std.specs.Prelude.{◌≡◌, ◌<◌, length};
 
 use crate::calls::{decode_line, encode_line, read_line};

@@ -1,4 +1,6 @@
 // Words of a code: n, k and W, and a word as bytes.
+#![tactic(auto)]
+
 pub mod packing; // a word as bytes
 pub mod shape; // n, k and W
 
