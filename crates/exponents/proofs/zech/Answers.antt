@@ -5,20 +5,16 @@ use native.Mathlib.Omega.{arith}
 use borrow.Author.Rules.{rules}
 use Rattle.field.specs.Field.{◌⊕◌, bit_times, modulus, reduction, times_alpha, alpha_to, length_of}
 use Rattle.exponents.proofs.ExponentTableLaws.{table_zech_lem}
-use Rattle.exponents.proofs.zech.Statement.{statement}
-use Rattle.exponents.proofs.zech.Tie as tie
+use Rattle.exponents.proofs.zech.Goals as goal
 
-returns : tie.Need-returns
+pub returns-then-m-eq4 : goal.returns-then-m-eq4
 unfolding ◌⊕◌ bit_times modulus reduction times_alpha alpha_to length_of
-returns c = search (rules, table_zech_lem 4)
+returns-then-m-eq4 c = search (rules, table_zech_lem 4)
 
-returns-2 : tie.Need-returns-2
+pub returns-then-m-eq5 : goal.returns-then-m-eq5
 unfolding ◌⊕◌ bit_times modulus reduction times_alpha alpha_to length_of
-returns-2 c = search (rules, table_zech_lem 5)
+returns-then-m-eq5 c = search (rules, table_zech_lem 5)
 
-returns-3 : tie.Need-returns-3
+pub returns-else-m-eq5 : goal.returns-else-m-eq5
 unfolding ◌⊕◌ bit_times modulus reduction times_alpha alpha_to length_of
-returns-3 c = let e : c.before.before.args.m ≡ 6 = omega arith in search (rules, e, table_zech_lem 6)
-
-pub zech-spec : {M : Type 1} → statement M
-zech-spec = tie.close (tie.spec returns returns-2 returns-3)
+returns-else-m-eq5 c = let e : c.args.m ≡ 6 = omega arith in search (rules, e, table_zech_lem 6)
