@@ -6,7 +6,7 @@ ghost use Rattle.items.specs.Line.{is_digit};
 ghost use Rattle.items.specs.Scan.{spoiled, first_item, found_at, closed_at, minus_at, holds_number};
 
 // What the bytes of an item say so far.
-#[derive(Drop)]
+#[derive(Clone, Copy)]
 pub struct Item {
     pub minus: bool,
     // how many digits were seen; 4 where the item can be no number any more
