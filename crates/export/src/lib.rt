@@ -1,5 +1,5 @@
 // The calls for C hosts: numbers and lent memory in, a refusal's number out, and what a refusal says beside its number from a call of its
-// own that writes nothing.
+// own that writes nothing. export_c exports them.
 #![tactic(auto)]
 
 ghost use Rattle.std.specs.Prelude.{◌≡◌, [], ◌∷◌, set};
@@ -57,8 +57,7 @@ fn tell_message(refusal: u8, number: u64, message: &mut [u64])
 }
 
 // Encodes a message into the word.
-#[unsafe(no_mangle)]
-pub extern "C" fn malligovu_encode(m: u32, t: u32, s: u32, message: u64, word: &mut [u8]) -> u32
+pub fn malligovu_encode(m: u32, t: u32, s: u32, message: u64, word: &mut [u8]) -> u32
     ensures { EncodeAnswers m t s message word.old result word.new }
 {
     codec::encode(narrow(m), narrow(t), narrow(s), message, word) as u32
@@ -72,8 +71,7 @@ fn reading_of(m: u32, t: u32, s: u32, word: &[u8]) -> codec::Reading
 }
 
 // Reads the word, and tells its message.
-#[unsafe(no_mangle)]
-pub extern "C" fn malligovu_read(m: u32, t: u32, s: u32, word: &[u8], message: &mut [u64]) -> u32
+pub fn malligovu_read(m: u32, t: u32, s: u32, word: &[u8], message: &mut [u64]) -> u32
     ensures { ReadTold m t s word.now message.old result message.new }
 {
     let reading = reading_of(m, t, s, word);
@@ -82,8 +80,7 @@ pub extern "C" fn malligovu_read(m: u32, t: u32, s: u32, word: &[u8], message: &
 }
 
 // Tells where read finds its fault, for the same arguments: with 9 the position, with 10 the power, and else 0.
-#[unsafe(no_mangle)]
-pub extern "C" fn malligovu_fault(m: u32, t: u32, s: u32, word: &[u8]) -> u32
+pub fn malligovu_fault(m: u32, t: u32, s: u32, word: &[u8]) -> u32
     ensures { FaultTold m t s word.now result }
 {
     let reading = reading_of(m, t, s, word);
@@ -91,8 +88,7 @@ pub extern "C" fn malligovu_fault(m: u32, t: u32, s: u32, word: &[u8]) -> u32
 }
 
 // Decodes the soft values into the word, and tells of it in the figures.
-#[unsafe(no_mangle)]
-pub extern "C" fn malligovu_decode(
+pub fn malligovu_decode(
     m: u32,
     t: u32,
     s: u32,
