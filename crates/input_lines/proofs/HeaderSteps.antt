@@ -83,14 +83,14 @@ module _ (text numbers : List ℕ) (count at : ℕ) (r : ReadNumbers text number
     abbrev item : List ℕ
     item = first_item (drop at text)
 
-    is_number : (not f.item.minus && holds_number f.item) ≡ is_number item
+    item_is_number : (not f.item.minus && holds_number f.item) ≡ is_number item
     unfolding found_at
-    is_number = ap (λ (x : Found). not x.item.minus && holds_number x.item) e ∙ plain_is item
+    item_is_number = ap (λ (x : Found). not x.item.minus && holds_number x.item) e ∙ plain_is item
 
     pub numbers_wrong : (not f.item.minus && holds_number f.item) ≡ false → header_of text ≡ wrong_header
     numbers_wrong w =
         not_fit text (rw (
-          reading_wrong is_number number_of text (take count numbers) at r.reading h (sym is_number ∙ w),
+          reading_wrong is_number number_of text (take count numbers) at r.reading h (sym item_is_number ∙ w),
           and-false
               (leb (length text) 512),
         ))
@@ -118,7 +118,7 @@ module _ (text numbers : List ℕ) (count at : ℕ) (r : ReadNumbers text number
       size = length-set numbers count f.item.number ∙ r.size;
       fits = omega arith;
       reading =
-          let n : T (is_number item) = subst T is_number t in
+          let n : T (is_number item) = subst T item_is_number t in
           rw (
             add-one count,
             take-suc-set numbers count f.item.number (omega (arith, r.size)),

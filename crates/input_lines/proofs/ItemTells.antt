@@ -18,7 +18,7 @@ use Rattle.items.specs.Scan.{fresh, spoiled, pushed, scanned, holds_number}
 use Rattle.items.specs.declared.Item.{Item}
 use Rattle.items.proofs.ScanLaws.{item, is_so, digit_low, spoiled_stays, digits_run, first_minus, first_digit, first_other}
 use Rattle.input_lines.specs.WordLine.{negative, after_minus, is_value, signed, value_of}
-use Rattle.input_lines.specs.Inner.HoldsValue.{holdsValue}
+use Rattle.input_lines.specs.Inner.HoldsValue.{holds_value}
 
 -- what p tells of a number's digits w, after the sign
 pub record Tells (minus : Bool) (w : List ℕ) (p : Item) : Type 0 where
@@ -90,7 +90,7 @@ plain_number w t =
     (scan_tells w).number (subst (λ (x : List ℕ). T (is_number x)) (sym q) t) ∙ ap number_of q
 
 -- a word line's value
-pub value_is : (w : List ℕ) → holdsValue (scanned fresh w) ≡ is_value w
+pub value_is : (w : List ℕ) → holds_value (scanned fresh w) ≡ is_value w
 unfolding is_value
 value_is w = go (is_number (after_minus w)) refl
   where
@@ -98,7 +98,7 @@ value_is w = go (is_number (after_minus w)) refl
     p = scanned fresh w
 
     go : (t : Bool) → is_number (after_minus w) ≡ t
-        → holdsValue p ≡ (is_number (after_minus w) && leb (number_of (after_minus w)) (cond (negative w) 128 127))
+        → holds_value p ≡ (is_number (after_minus w) && leb (number_of (after_minus w)) (cond (negative w) 128 127))
     go true e = rw ((scan_tells w).holds, (scan_tells w).sign (is_so e), (scan_tells w).number (is_so e))
     go false e = rw ((scan_tells w).holds, e)
 

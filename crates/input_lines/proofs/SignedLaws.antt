@@ -17,20 +17,20 @@ use mir.Facts.{sfits_widen}
 use mir.ValLaws.{to_z_pos, to_z-of_z}
 use Rattle.field.proofs.TestLaws.{and_right}
 use Rattle.items.specs.Scan.{holds_number}
-use Rattle.input_lines.specs.Inner.HoldsValue.{holdsValue}
+use Rattle.input_lines.specs.Inner.HoldsValue.{holds_value}
 use Rattle.items.specs.declared.Item.{Item}
 
-value_most : (p : Item) → T (holdsValue p) → p.number ≤ cond p.minus 128 127
+value_most : (p : Item) → T (holds_value p) → p.number ≤ cond p.minus 128 127
 value_most p t = leb→le p.number (cond p.minus 128 127) (and_right (holds_number p) (leb p.number (cond p.minus 128 127)) t)
 
-pub value_128 : (p : Item) → T (holdsValue p) → p.number ≤ 128
+pub value_128 : (p : Item) → T (holds_value p) → p.number ≤ 128
 value_128 p t = le_trans (value_most p t) (go p.minus)
   where
     go : (b : Bool) → cond b 128 127 ≤ 128
     go true = omega arith
     go false = omega arith
 
-pub value_127 : (p : Item) → T (holdsValue p) → p.minus ≡ false → p.number ≤ 127
+pub value_127 : (p : Item) → T (holds_value p) → p.minus ≡ false → p.number ≤ 127
 value_127 p t e = rw e at (value_most p t)
 
 pub negative_fits : (n : ℕ) → n ≤ 128 → SFits w8 (neg_ℤ (pos n))

@@ -15,7 +15,7 @@ use lib.ListN.{length, take, drop, set, length-set}
 use lib.Seq.{length-take-le, take-suc-set}
 use Rattle.input_lines.specs.WordLine.{is_value, signed, value_of, values_of}
 use Rattle.items.specs.Scan.{first_item, found_at}
-use Rattle.input_lines.specs.Inner.HoldsValue.{holdsValue}
+use Rattle.input_lines.specs.Inner.HoldsValue.{holds_value}
 use Rattle.input_lines.specs.ValuesRead.{ValuesRead}
 use Rattle.items.specs.declared.Found.{Found}
 use Rattle.input_lines.specs.declared.word_line.Line.{Line}
@@ -44,14 +44,14 @@ module _ (text : List ℕ) (values : List ℤ) (count at : ℕ) (r : Read text v
     abbrev item : List ℕ
     item = first_item (drop at text)
 
-    pub is_value : holdsValue f.item ≡ is_value item
+    pub item_is_value : holds_value f.item ≡ is_value item
     unfolding found_at
-    is_value = ap (λ (x : Found). holdsValue x.item) e ∙ value_is item
+    item_is_value = ap (λ (x : Found). holds_value x.item) e ∙ value_is item
 
-    pub read_wrong : holdsValue f.item ≡ false → ValuesRead (values_of text) (line false 0) values
+    pub read_wrong : holds_value f.item ≡ false → ValuesRead (values_of text) (line false 0) values
     unfolding values_of
     read_wrong w =
-        let n = reading_wrong is_value value_of text (take count values) at r.reading h (sym is_value ∙ w) in
+        let n = reading_wrong is_value value_of text (take count values) at r.reading h (sym item_is_value ∙ w) in
         record {
           good = rw (n, and-false (leb (length text) 512));
           fits = omega arith;
@@ -59,9 +59,9 @@ module _ (text : List ℕ) (values : List ℤ) (count at : ℕ) (r : Read text v
               absurd (rw (n, and-false (leb (length text) 512)) at t);
         }
 
-    module _ (t : T (holdsValue f.item)) where
+    module _ (t : T (holds_value f.item)) where
       value : T (is_value item)
-      value = subst T is_value t
+      value = subst T item_is_value t
 
       ends : f.end ≡ at + length item
       unfolding found_at

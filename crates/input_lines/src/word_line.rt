@@ -2,7 +2,7 @@
 ghost use Rattle.std.specs.Prelude.{◌≡◌, false, T, length};
 ghost use Rattle.input_lines.specs.WordLine.{signed, values_of};
 ghost use Rattle.input_lines.specs.ValuesRead.{ValuesRead};
-ghost use Rattle.input_lines.specs.Inner.HoldsValue.{holdsValue};
+ghost use Rattle.input_lines.specs.Inner.HoldsValue.{holds_value};
 
 use items::{Item, holds_number, item_at};
 
@@ -24,14 +24,14 @@ fn wrong() -> Line
 
 // A number from -128 to 127.
 fn holds_value(item: Item) -> bool
-    ensures { result ≡ holdsValue item }
+    ensures { result ≡ holds_value item }
 {
     let most: u16 = if item.minus { 128 } else { 127 };
     holds_number(item) && item.number <= most
 }
 
 fn value_of(item: Item) -> i8
-    requires { T (holdsValue item) }
+    requires { T (holds_value item) }
     ensures { result ≡ signed item.minus item.number }
 {
     let size = item.number as i16;
