@@ -2,10 +2,28 @@
 //
 // The numbers and rows of a line are known by their place: they stand after its first `=`, its second, and so on. A number that is not
 // there is 0.
-ghost use Rattle.std.specs.Prelude.{◌+◌, ◌-◌, ◌<◌, ◌≤◌, length};
+ghost use Rattle.std.specs.Prelude.{◌≡◌, ◌≢◌, ℕ, ◌+◌, ◌-◌, ◌<◌, ◌≤◌, slice_index, length};
 
-use bytes::scan::find;
 use std::num::{wrapping_add_u64, wrapping_add_usize, wrapping_sub_u64};
+
+// The first index from `from` on and below `to` at which the byte stands, or `to`.
+pub fn find(text: &[u8], from: usize, to: usize, byte: u8) -> usize
+    requires ordered { from ≤ to }
+    requires in_text { to ≤ length text.now }
+    ensures low { from ≤ result }
+    ensures high { result ≤ to }
+    ensures found { result < to → slice_index text.now result ≡ byte }
+    ensures first { (k : ℕ) → from ≤ k → k < result → slice_index text.now k ≢ byte }
+{
+    let mut at = from;
+    while at < to {
+        if text[at] == byte {
+            return at;
+        }
+        at += 1;
+    }
+    at
+}
 
 // How often a byte stands in a text from an index on.
 pub fn count_of(byte: u8, text: &[u8], from: usize) -> usize {

@@ -1,8 +1,9 @@
 // What is printed: a line, with what its call answers in the place of its question marks.
-use crate::scan::count_of;
-use bytes::scan::find;
-use libc::STDOUT_FILENO;
+use crate::scan::{count_of, find};
 use std::num::wrapping_sub_usize;
+
+// Standard output.
+const STDOUT_FILENO: i32 = 1;
 
 pub fn put_text(text: &[u8]) {
     io::write_all(STDOUT_FILENO, text);

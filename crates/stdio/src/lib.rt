@@ -2,11 +2,19 @@
 // failure is said in a line on standard error.
 #![tactic(auto)]
 
-ghost use Rattle.std.specs.Prelude.{◌≤◌, length};
+ghost use Rattle.std.specs.Prelude.{◌≡◌, ◌≤◌, ◌^◌, ◌-◌, pos, negsuc, min, unwrap_or, IfOk, IfErr, length};
+ghost use Rattle.std.specs.IoError.{raw_os_error};
 ghost use Rattle.stdio.specs.Outcome.{Means, Within};
 
-use libc::types::timespec;
-use libc::{EAGAIN, EINTR, STDIN_FILENO, STDOUT_FILENO};
+use std::io::{Error, Read, Write};
+use std::time::{Clock, Duration};
+use std::{str, thread};
+
+// A call was interrupted.
+const EINTR: i32 = 4;
+
+// A call was not ready.
+const EAGAIN: i32 = 11;
 
 // What came of a call: it moved so many bytes; or it was interrupted or not ready; or it failed, and standard error says how.
 #[derive(Drop)]
@@ -16,22 +24,34 @@ pub enum Outcome {
     Failed,
 }
 
-// A thousandth of a second passes, or less where a signal comes.
-fn wait() {
-    let asked = timespec {
-        tv_sec: 0,
-        tv_nsec: 1000000,
-    };
-    let mut left = timespec {
-        tv_sec: 0,
-        tv_nsec: 0,
-    };
-    libc::nanosleep(&asked, &mut left);
+// A thousandth of a second passes.
+fn wait(rt: &impl Clock) {
+    thread::sleep(rt, Duration::from_nanos(1000000));
 }
 
-// What the system's answer to a call means, by errno where it is no count. A call that was not ready is given time at once, and a failure
-// is said.
-fn outcome_of(got: isize, error: i32, lent: &[u8], name: &[u8]) -> Outcome
+// Writes a line to standard error: what failed, as the caller names it, a colon and the system's text for the error, which is std's text
+// without the number after it.
+fn fail(rt: &impl Eprint, name: &str, error: i32) {
+    let mut text = [0u8; 128];
+    let mut room = &mut text[..];
+    let _ = write!(room, "{}", Error::from_raw_os_error(error));
+    let words = str::from_utf8(&text).unwrap_or("");
+    let said = match words.split_once(" (os error ") {
+        Some((before, _)) => before,
+        None => words,
+    };
+    let _ = eprintln!(rt; "{name}: {said}");
+}
+
+// What the system's answer to a call means, by the number of its error where it is no count. A call that was not ready is given time at
+// once, and a failure is said.
+fn outcome_of(
+    rt: &(impl Clock + Eprint),
+    got: isize,
+    error: i32,
+    lent: &[u8],
+    name: &str,
+) -> Outcome
     ensures { Means got error lent.now result }
 {
     if got >= 0 {
@@ -41,41 +61,52 @@ fn outcome_of(got: isize, error: i32, lent: &[u8], name: &[u8]) -> Outcome
         return Outcome::Later;
     }
     if error == EAGAIN {
-        wait();
+        wait(rt);
         return Outcome::Later;
     }
-    os::fail(name);
+    fail(rt, name, error);
     Outcome::Failed
 }
 
+// The system's answer to a call and the number of its error: std gives the count, or the error.
+fn answer_of(call: Result<usize, Error>) -> (isize, i32)
+    ensures count { IfOk call (λ n. result.0 ≡ pos (min n (2 ^ 63 - 1))) }
+    ensures failure { IfErr call (λ e. result ≡ (negsuc 0, unwrap_or (raw_os_error e) (pos 0))) }
+{
+    match call {
+        Ok(n) => (isize::try_from(n).unwrap_or(isize::MAX), 0),
+        Err(e) => (-1, e.raw_os_error().unwrap_or(0)),
+    }
+}
+
 // One read of standard input. Of a block with room, Moved(0) is the end of the input, and nothing else is.
-pub fn read(block: &mut [u8]) -> Outcome
+pub fn read(rt: &(impl Clock + Eprint), input: &mut impl Read, block: &mut [u8]) -> Outcome
     ensures { Within result block.new }
 {
-    let got = libc::read(STDIN_FILENO, block);
-    outcome_of(got, os::errno(), block, b"malligovu: standard input")
+    let (got, error) = answer_of(input.read(block));
+    outcome_of(rt, got, error, block, "malligovu: standard input")
 }
 
 // One write to standard output. One that takes no byte is given time, as one that was not ready.
-fn write(text: &[u8]) -> Outcome
+fn write(rt: &(impl Clock + Print + Eprint), text: &[u8]) -> Outcome
     ensures { Within result text.now }
 {
-    let put = libc::write(STDOUT_FILENO, text);
+    let (put, error) = answer_of(rt.write_some(text));
     if put == 0 {
-        wait();
+        wait(rt);
     }
-    outcome_of(put, os::errno(), text, b"malligovu: standard output")
+    outcome_of(rt, put, error, text, "malligovu: standard output")
 }
 
 // Writes the text to standard output, in as many calls as it takes, and gives back how many bytes were taken: all, unless a call failed.
 // A proved loop has to end: it counts its calls down, from a number that no run uses up.
-pub fn write_all(text: &[u8]) -> usize
+pub fn write_all(rt: &(impl Clock + Print + Eprint), text: &[u8]) -> usize
     ensures { result ≤ length text.now }
 {
     let mut done = 0;
     let mut calls = u64::MAX;
     while done < text.len() && calls > 0 {
-        let put = write(&text[done..]);
+        let put = write(rt, &text[done..]);
         match put {
             Outcome::Moved(n) => {
                 done += n;
