@@ -25,7 +25,7 @@ use Rattle.decode.specs.Decode.{Refused, DecodeAnswers}
 use Rattle.decode.specs.Call.{Call, Result, checks_of, refused_with}
 use Rattle.decode.proofs.CalledLaws.{result_answers}
 use Rattle.demands.specs.Calls.{Calls}
-use Rattle.demands.specs.Contracts.{Contracts}
+use Rattle.demands.specs.CallContracts.{Contracts}
 use Rattle.demands.specs.Demand1.{EncodeFixed, ReadFixed, DecodeFixed, Demand1}
 use Rattle.demands.specs.Decodes.{Among, Decodes}
 use Rattle.demands.specs.Demand2.{Encodes, Reads, Demand2}

@@ -24,7 +24,7 @@ use Rattle.decode.proofs.CalledLaws.{Answers, result_answers, answers_as_result}
 use Rattle.codec.specs.GivenBack.{fault_at, Encoding}
 use Rattle.codec.specs.declared.Reading.{Reading}
 use Rattle.demands.specs.Calls.{Calls}
-use Rattle.demands.specs.Contracts.{Contracts}
+use Rattle.demands.specs.CallContracts.{Contracts}
 use Rattle.demands.specs.Demand1.{Demand1}
 use Rattle.demands.specs.Decodes.{Decodes}
 use Rattle.demands.specs.Demand2.{Demand2}

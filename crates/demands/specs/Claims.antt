@@ -14,7 +14,7 @@ use Rattle.std.specs.Prelude.{◌≡◌, List, ℕ, ◌≤◌}
 use Rattle.decode.specs.Call.{Call, checks_of}
 use Rattle.settled.specs.SettledCalls.{calling, tied}
 use Rattle.demands.specs.Calls.{Calls}
-use Rattle.demands.specs.Contracts.{Contracts}
+use Rattle.demands.specs.CallContracts.{Contracts}
 use Rattle.demands.specs.Demand1.{Demand1}
 use Rattle.demands.specs.Decodes.{Returns}
 use Rattle.demands.specs.Demand2.{Demand2}

@@ -1,5 +1,5 @@
 pub mod Calls
-pub mod Contracts
+pub mod CallContracts
 pub mod Demand1
 pub mod Decodes
 pub mod Demand2

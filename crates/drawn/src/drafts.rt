@@ -9,7 +9,7 @@ use std::num::wrapping_add_u64;
 
 // What such a word is made of: the codeword, its wrong bits, the places where a rival is another, and the sizes: those of the rival's right
 // places go up to `scale`, and those of other right places start there.
-#[derive(Drop)]
+#[derive(Clone, Copy)]
 struct Draft {
     codeword: u64,
     wrong: u64,

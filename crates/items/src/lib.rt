@@ -2,11 +2,11 @@
 #![tactic(auto)]
 
 ghost use Rattle.std.specs.Prelude.{◌≡◌, ◌&&◌, ◌+◌, ◌≤◌, length, drop};
-ghost use Rattle.items.specs.Line.{is_digit as Line·isDigit};
-ghost use Rattle.items.specs.Scan.{spoiled as Scan·spoiled, first_item, found_at, closed_at, minus_at, holds_number};
+ghost use Rattle.items.specs.Line.{is_digit};
+ghost use Rattle.items.specs.Scan.{spoiled, first_item, found_at, closed_at, minus_at, holds_number};
 
 // What the bytes of an item say so far.
-#[derive(Drop)]
+#[derive(Clone, Copy)]
 pub struct Item {
     pub minus: bool,
     // how many digits were seen; 4 where the item can be no number any more
@@ -23,7 +23,7 @@ pub struct Found {
 
 // An item that is no number, whatever follows.
 fn spoiled() -> Item
-    ensures { result ≡ Scan·spoiled }
+    ensures { result ≡ spoiled }
 {
     Item {
         minus: false,
@@ -33,7 +33,7 @@ fn spoiled() -> Item
 }
 
 fn is_digit(b: usize) -> bool
-    ensures { result ≡ Line·isDigit b }
+    ensures { result ≡ is_digit b }
 {
     48 <= b && b <= 57
 }

@@ -48,7 +48,8 @@ decimal_in_lem most n (suc zero) h f =
 decimal_in_lem zero n (suc (suc k)) h f = absurd (omega (arith, ten_or_more n k (two_or_more n k f)))
 decimal_in_lem (suc most) n (suc (suc k)) h f =
     let l : 10 ≤ n = ten_or_more n k (two_or_more n k f) in
-    ap₂ ◌++◌ (decimal_in_lem most (n / 10) (suc k) (omega arith) (fewer n k f)) (ap (λ (x : ℕ). x ∷ []) (digit_glyph (n % 10) (omega arith)))
+    ap₂ ◌++◌ (decimal_in_lem most (n / 10) (suc k) (omega arith) (fewer n k f))
+    (ap (λ (x : ℕ). x ∷ []) (digit_glyph (n % 10) (omega arith)))
     ∙ sym (more_digits (suc most) n l)
 
 pub decimal_is : (n k : ℕ) → IsDigitCount 10 1 n k → last_digits 10 k n ≡ decimal n
@@ -70,7 +71,8 @@ pub decimal_most : (n k : ℕ) → n < 10 ^ suc k → length (decimal n) ≤ suc
 unfolding decimal
 decimal_most n k h = most_in (suc n) n k h
 
-pub hex_more : (bytes : List ℕ) (b : ℕ) → hex_of (bytes ++ (b ∷ [])) ≡ hex_of bytes ++ (hex_digit_ascii (b / 16) ∷ []) ++ (hex_digit_ascii (b % 16) ∷ [])
+pub hex_more : (bytes : List ℕ) (b : ℕ)
+    → hex_of (bytes ++ (b ∷ [])) ≡ hex_of bytes ++ (hex_digit_ascii (b / 16) ∷ []) ++ (hex_digit_ascii (b % 16) ∷ [])
 unfolding hex_of
 hex_more [] b = refl
 hex_more (x ∷ bytes) b = ap (λ (l : List ℕ). hex_digit_ascii (x / 16) ∷ hex_digit_ascii (x % 16) ∷ l) (hex_more bytes b)

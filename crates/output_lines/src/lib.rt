@@ -2,7 +2,7 @@
 #![tactic(auto)]
 
 ghost use Rattle.std.specs.Prelude.{◌≡◌, ◌+◌, ◌*◌, ◌≤◌, ◌<◌, length};
-ghost use Rattle.io.specs.Digits.{hex_digit_ascii as Digits·glyph};
+ghost use Rattle.io.specs.Digits.{hex_digit_ascii};
 ghost use Rattle.output_lines.specs.Output.{decimal, hex_of, figure, header_line, line_line, refused_line, ok_line};
 ghost use Rattle.output_lines.specs.Put.{Put};
 ghost use Rattle.output_lines.specs.Inner.PutAt.{PutAt};
@@ -22,7 +22,7 @@ fn put_at(piece: &[u8], out: &mut [u8], at: usize) -> usize
 
 fn glyph(d: u8) -> u8
     requires { d < 16 }
-    ensures { result ≡ Digits·glyph d }
+    ensures { result ≡ hex_digit_ascii d }
 {
     if d < 10 { 48 + d } else { 87 + d }
 }

@@ -6,7 +6,7 @@ use Rattle.items.proofs.item_at.Given as goal
 
 abbrev pub invariant-loop-digits : goal.invariant-loop-digits
 invariant-loop-digits l =
-    (l.digits ≤ 3) × Scanning l.text l.from (record { l.minus = l.minus; l.digits = l.digits; l.number = l.number }) l.at
+    (l.digits ≤ 3) × Scanning l.text l.from (record { minus = l.minus; digits = l.digits; number = l.number }) l.at
 
 abbrev pub decreases-loop-digits : goal.decreases-loop-digits
 decreases-loop-digits l = 3 - l.digits

@@ -1,7 +1,6 @@
 -- `items::space_at` meets its contract. The loop's invariant: no space was passed. The measure is what is left of the text.
 -- Assumes nothing.
 use mathlib.Core.Path.{refl}
-use Prim.Native.Nat.{◌-◌}
 use native.Mathlib.Omega.{arith}
 use Rattle.items.proofs.ScanSteps.{space_on, space_here, space_end}
 use Rattle.items.proofs.space_at.Goals as goal
