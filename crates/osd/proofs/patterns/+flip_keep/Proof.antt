@@ -14,7 +14,7 @@ use Rattle.prepare.specs.PlanOf.{plan_of}
 use Rattle.candidates.specs.As.{as_best, most_counted}
 use Rattle.parts.specs.Chains.{slot_of, Tabled}
 use Rattle.candidates.proofs.WeighSteps.{ne_pos}
-use Rattle.osd.specs.Inner.BestFrom.{bestFrom}
+use Rattle.osd.specs.Inner.BestFrom.{best_from}
 use Rattle.osd.proofs.SkipSteps.{made_more, at_first, at_after, next_slot, kept_start, kept_turn, room}
 use borrow.Fn.Kinds.{In}
 use borrow.Fn.PlainCycle.{Measures, is, falls, and}
@@ -102,13 +102,13 @@ flip-keep-requires t c κs =
 flip-returns : (t : ℕ) → flip-lts.Need-returns (flip-claims t) (flip_at t) flip.Post
 flip-returns t c =
     let a = c.before.before.before.before.before.args in
-    c.keep.ensures ∙ ap (λ (w : ℕ). bestFrom a.p (a.rank.0 + 1) (a.may - 1) w (as_best a.best))
+    c.keep.ensures ∙ ap (λ (w : ℕ). best_from a.p (a.rank.0 + 1) (a.may - 1) w (as_best a.best))
     c.before.before.with.ensures.0
 
 abbrev keep-Inv-loop : keep-lts.invariant-loop
 keep-Inv-loop p rank may flips symbols parts chains part size b₀ end₀ b end =
     (rank.0 ≤ end.0) × (end.0 ≤ p.size) × (may ≡ 1 → rank.0 < end.0 → slot_of (get_or parts (end.0 - 1) 0) ≡ slot_of part)
-    × ((x : Best) → as_best b₀ ≡ tried (plan_of p) flips.ranks x → as_best b ≡ bestFrom p end.0 may flips.ranks x)
+    × ((x : Best) → as_best b₀ ≡ tried (plan_of p) flips.ranks x → as_best b ≡ best_from p end.0 may flips.ranks x)
 
 abbrev keep-μ-loop : keep-lts.decreases-loop
 keep-μ-loop p rank may flips symbols parts chains part size b₀ end₀ b end = end.0
@@ -129,7 +129,7 @@ keep-returns : (t : ℕ) → keep-lts.Need-returns (keep-claims t) (keep_at t) k
 keep-returns t c =
     let a = c.before.before.args in
     c.pattern.ensures
-    ∙ sym (ap (λ (n : ℕ). bestFrom a.p a.rank.0 n a.flips.ranks (as_best a.best)) c.before.if1.true
+    ∙ sym (ap (λ (n : ℕ). best_from a.p a.rank.0 n a.flips.ranks (as_best a.best)) c.before.if1.true
     ∙ search_early (λ i. i) (tried (plan_of a.p)) (a.p.size - a.rank.0) a.rank.0 a.flips.ranks (as_best a.best))
 
 keep-pattern-requires-2 : (t : ℕ) → keep-lts.Need-pattern-requires-2 (keep-claims t) (keep_at t) keep.Post keep-Inv-loop keep-μ-loop
@@ -180,7 +180,7 @@ keep-flip-requires t c κs =
     let low : r < a.p.size = omega (arith, l.invariant.1) in
     let more = ne_pos a.may c.before.before.before.before.before.before.before.before.if1.false in
     let e = l.invariant.3 (as_best a.best) c.before.before.before.before.before.before.before.pattern2.ensures
-    ∙ ap (λ (n : ℕ). bestFrom a.p n a.may a.flips.ranks (as_best a.best)) back in
+    ∙ ap (λ (n : ℕ). best_from a.p n a.may a.flips.ranks (as_best a.best)) back in
     let fits = room a.p a.rank.0 r a.may a.flips.ranks _ _ (omega arith) low (λ z. omega arith) pre.1.1 e in (
       omega arith,
       (
@@ -235,7 +235,7 @@ keep-returns-2 t c =
     let l = c.before.before.before.loop in
     let end : l.end.0 ≡ a.rank.0 = omega (arith, l.invariant.0, c.if2.false) in
     l.invariant.3 (as_best a.best) c.before.before.before.before.before.before.pattern2.ensures
-    ∙ ap (λ (n : ℕ). bestFrom a.p n a.may a.flips.ranks (as_best a.best)) end
+    ∙ ap (λ (n : ℕ). best_from a.p n a.may a.flips.ranks (as_best a.best)) end
 
 pub +flip-keep-spec : {M : Type 1} → statement M
 +flip-keep-spec = close μ-flip μ-keep (λ t. flip-lts.spec (flip-claims t)
