@@ -1,38 +1,47 @@
 -- `weigh` meets its contract: in each turn the lowest rank that is left goes from `g` into the distance. The prepared word is none of
 -- the loop's variables, so the invariant speaks of every one that has these weights. Assumes nothing.
 use mathlib.Core.Path.{refl}
-use Prim.Native.Nat.{◌+◌, ◌<◌}
+use mathlib.Core.Logic.{◌≢◌}
+use Prim.Native.Nat.{ℕ, ◌+◌, ◌<◌}
+use Rattle.search.specs.Plan.{Fits}
+use Rattle.prepare.specs.declared.Prepared.{Prepared}
 use native.Mathlib.Omega.{arith}
 use lib.Count.{count_trailing_zeros}
 use Rattle.search.proofs.LowestBit.{turn_less}
 use Rattle.prepare.specs.PlanOf.{plan_of}
 use Rattle.candidates.proofs.WeighSteps.{ne_pos, rank_low, Far, far_start, far_turn, far_fits, far_end}
 use Rattle.candidates.proofs.pattern.weigh.Goals as goal
+use Rattle.candidates.proofs.pattern.weigh.Goals.{In-loop-g}
 
 -- in a turn: there is a lowest rank, which is one of those prepared
-some : (c : In-loop-g invariant-loop decreases-loop) → 0 < c.before.loop.g
-some c = ne_pos c.before.loop.g c.loop-test.true
+some : (c : In-loop-g) → 0 < c.loop-g.g
+some c = ne_pos c.loop-g.g c.loop-g-test.true
 
-far : (c : In-loop-g invariant-loop decreases-loop)
-    → Far (plan_of c.before.before.before.args.p) c.before.before.before.args.ranks c.before.loop.distance
-    c.before.loop.g
-far c = let s = c.before.before.before in c.before.loop.invariant s.args.p s.requires.0 refl s.requires.1
+far : (c : In-loop-g)
+    → Far (plan_of c.args.p) c.args.ranks c.loop-g.distance
+    c.loop-g.g
+far c = c.loop-g.invariant c.args.p c.requires.0 refl c.requires.1
 
-low : (c : In-loop-g invariant-loop decreases-loop)
-    → count_trailing_zeros 64 c.before.loop.g < c.before.before.before.args.p.size + c.before.before.before.args.p.rows
-low c = let s = c.before.before.before in rank_low (plan_of s.args.p) s.requires.0 c.before.loop.g (far c).low (some c)
+low : (c : In-loop-g)
+    → count_trailing_zeros 64 c.loop-g.g < c.args.p.size + c.args.p.rows
+low c = rank_low (plan_of c.args.p) c.requires.0 c.loop-g.g (far c).low (some c)
 
-near : (c : In-loop-g invariant-loop decreases-loop) → count_trailing_zeros 64 c.before.loop.g < 63
-near c = omega (arith, low c, c.before.before.before.requires.0.all)
+-- a rank that is prepared has its weight
+near : (p : Prepared) → Fits (plan_of p) → (ranks distance g : ℕ) → Far (plan_of p) ranks distance g → (g ≢ 0)
+    → count_trailing_zeros 64 g < 63
+near p fits ranks distance g f n = omega (arith, rank_low (plan_of p) fits g f.low (ne_pos g n), fits.all)
 
 pub loop-g-init : goal.loop-g-init
 loop-g-init c = λ p fits e h. far_start (plan_of p) _ h
 
 pub overflow_cast-rank : goal.overflow_cast-rank
-overflow_cast-rank c = record { fits = omega (arith, near c) }
+overflow_cast-rank c =
+    let far = c.loop-g.invariant c.args.p c.requires.0 refl c.requires.1 in
+    record { fits = omega (arith, near c.args.p c.requires.0 _ _ _ far c.loop-g-test.true) }
 
 pub bounds-weight-rank : goal.bounds-weight-rank
-bounds-weight-rank c = near c
+bounds-weight-rank c =
+    near c.args.p c.requires.0 _ _ _ (c.loop-g.invariant c.args.p c.requires.0 refl c.requires.1) c.loop-g-test.true
 
 pub overflow_cast-distance : goal.overflow_cast-distance
 overflow_cast-distance c = record { fits = omega (arith, c.requires.0.weights _ (low c)) }

@@ -5,4 +5,4 @@ use Rattle.candidates.proofs.best.Best.counting.Goals as goal
 
 pub returns : goal.returns
 unfolding better stays
-returns c x c = simp (c.requires.0, lt-ltb _ _ c)
+returns c x h = simp (c.requires.0, lt-ltb _ _ h)

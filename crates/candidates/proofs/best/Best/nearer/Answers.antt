@@ -5,4 +5,4 @@ use native.Mathlib.Omega.{arith}
 use Rattle.candidates.proofs.best.Best.nearer.Goals as goal
 
 pub returns : goal.returns
-returns c c = let z : ◌≡◌ {A = ℕ} 0 1 = cc in absurd (omega arith)
+returns c e = let z : ◌≡◌ {A = ℕ} 0 1 = cc in absurd (omega arith)
