@@ -69,7 +69,8 @@ module _ (symbols : List ℕ) (bits size : ℕ) where
         let x = get_or symbols (q * 63 + count_trailing_zeros 64 rest) 0 in
         let r = row_sum symbols rest size q in
         ap₂ ◌⊕◌ (add.sums q l) (turn_xor 64 size rest some s.low (omega arith) (λ j. get_or symbols (q * 63 + j) 0))
-        ∙ xor_swap (get_or sums q 0) x r x ∙ ap (λ (u : ℕ). get_or sums q 0 ⊕ r ⊕ u) (xor_self x) ∙ xor_zero (get_or sums q 0 ⊕ r) ∙ s.left q l;
+        ∙ xor_swap (get_or sums q 0) x r x ∙ ap (λ (u : ℕ). get_or sums q 0 ⊕ r ⊕ u) (xor_self x) ∙ xor_zero (get_or sums q 0 ⊕ r)
+        ∙ s.left q l;
   }
 
   pub summed_all : (sums : List ℕ) (rest : ℕ) → rest ≡ 0 → Summed sums rest → RowSums symbols bits size sums
