@@ -20,4 +20,4 @@ returns c =
     rw (says_refused c.args.h (not-false _ c.if-not-h.false)
     (λ z. c.if-refusal-eq-TAKEN.false (n.ensures ∙ z))
     ∙ ap refused_line (sym n.ensures))
-    c.Put-refused.ensures
+    c.put_refused.ensures

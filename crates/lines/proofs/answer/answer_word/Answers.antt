@@ -4,7 +4,6 @@ use native.Mathlib.Omega.{arith}
 use borrow.Author.Tests.{not-true, not-false}
 use lib.Dec.{T}
 use lib.ListN.{length-take}
-use lib.Seq.{length-take-le}
 use Rattle.lines.proofs.AnswerLaws.{decoded_known, answers_line, answers_refused, answers_ok}
 use Rattle.lines.proofs.answer.answer_word.Goals as goal
 
@@ -18,9 +17,6 @@ returns-then-not-line c =
 pub slice_bounds-values-end : goal.slice_bounds-values-end
 slice_bounds-values-end c = c.read_values-line.ensures.fits
 
-pub slice_bounds-decode-end : goal.slice_bounds-decode-end
-slice_bounds-decode-end c = let v = c.read_values-line in sym (length-take-le v.result.count v.new.1.0 v.ensures.fits)
-
 pub returns-then-decoding-ne-TAKEN : goal.returns-then-decoding-ne-TAKEN
 returns-then-decoding-ne-TAKEN c =
     let d = c.decode-decoding in
@@ -28,22 +24,16 @@ returns-then-decoding-ne-TAKEN c =
     let a = c.args in
     let g = sym v.ensures.good ∙ not-false _ c.if-not-line.false in
     rw (answers_refused a.h a.text.now g _ (v.ensures.holds (subst T (sym g) tt)) d.result _ d.ensures
-    c.if-decoding-ne-TAKEN.true) c.Put-refused.ensures
+    c.if-decoding-ne-TAKEN.true) c.put_refused.ensures
 
 pub bytes_of-width-requires : goal.bytes_of-width-requires
 bytes_of-width-requires c = let k = decoded_known c.decode-decoding.ensures c.if-decoding-ne-TAKEN.false in (k.m_low, k.m_high)
-
-pub slice_bounds-put_ok-end : goal.slice_bounds-put_ok-end
-slice_bounds-put_ok-end c =
-    let d = c.decode-decoding in
-    let w = c.bytes_of-width in
-    sym (length-take-le w.result d.new.1.1.1.1.1.0 (omega (arith, w.ensures.1, d.auto.1.1.1.1.1.0)))
 
 pub put_ok-requires : goal.put_ok-requires
 put_ok-requires c =
     let d = c.decode-decoding in
     let w = c.bytes_of-width in (
-      omega (arith, w.ensures.1, length-take w.result d.new.1.1.1.1.1.0),
+      omega (arith, w.ensures.1, length-take w.result d.new.buf),
       c.requires,
     )
 
