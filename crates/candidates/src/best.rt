@@ -4,7 +4,7 @@ ghost use Rattle.search.specs.Best.{Weighed, none, stays, better};
 ghost use Rattle.candidates.specs.As.{as_best, as_weighed, most_counted};
 
 // A codeword with its soft distance and the number of positions where it differs from the hard decisions.
-#[derive(Drop)]
+#[derive(Clone, Copy)]
 pub struct Candidate {
     pub word: u64,
     pub distance: u16,
@@ -12,7 +12,7 @@ pub struct Candidate {
 }
 
 // The best candidate so far, if one is found, and how many were seen. The widest come first, so that there is no gap to copy.
-#[derive(Drop)]
+#[derive(Clone, Copy)]
 pub struct Best {
     pub word: u64,
     pub count: u32,

@@ -105,8 +105,8 @@ value_is w = go (is_number (after_minus w)) refl
 pub value_number : (w : List ℕ) → T (is_value w) → signed (scanned fresh w).minus (scanned fresh w).number ≡ value_of w
 unfolding is_value value_of
 value_number w t =
-    let g : T (is_number (after_minus w)) = and_left (is_number (after_minus w)) (leb (number_of (after_minus w)) (cond (negative w) 128 127))
-    t in
+    let g : T (is_number (after_minus w)) =
+    and_left (is_number (after_minus w)) (leb (number_of (after_minus w)) (cond (negative w) 128 127)) t in
     ap₂ signed ((scan_tells w).sign g) ((scan_tells w).number g)
 
 -- a number has a byte, and so has a value

@@ -6,7 +6,7 @@ ghost use Rattle.items.specs.Scan.{holds_number};
 use items::{Item, holds_number, item_at};
 
 // m, t, s and order; all 0 where the header is wrong.
-#[derive(Drop)]
+#[derive(Clone, Copy)]
 pub struct Header {
     pub good: bool,
     pub m: u16,

@@ -30,7 +30,8 @@ found item end = record { item = item; end = end }
 
 -- the bytes up to the next space, by the byte at a place
 module _ (text : List ℕ) (at : ℕ) where
-  pub space_on : at < length text → (get_or text at 0 ≡ 32 → ⊥) → first_item (drop at text) ≡ get_or text at 0 ∷ first_item (drop (at + 1) text)
+  pub space_on : at < length text → (get_or text at 0 ≡ 32 → ⊥)
+      → first_item (drop at text) ≡ get_or text at 0 ∷ first_item (drop (at + 1) text)
   unfolding first_item
   space_on h n = rw (drop-cons text at 0 h, ne_eqb (get_or text at 0) 32 n, add-one at)
 
@@ -101,7 +102,8 @@ scan_plain text from h e = record {
 }
 
 minus_byte : (text : List ℕ) (from : ℕ) → minus_at text from ≡ true → get_or text from 0 ≡ 45
-minus_byte text from e = eqb→eq (get_or text from 0) 45 (and_right (ltb from (length text)) (eqb (get_or text from 0) 45) (subst T (sym e) tt))
+minus_byte text from e =
+    eqb→eq (get_or text from 0) 45 (and_right (ltb from (length text)) (eqb (get_or text from 0) 45) (subst T (sym e) tt))
 
 pub minus_within : (text : List ℕ) (from : ℕ) → minus_at text from ≡ true → from < length text
 minus_within text from e = ltb→lt from (length text) (and_left (ltb from (length text)) (eqb (get_or text from 0) 45) (subst T (sym e) tt))
@@ -140,7 +142,8 @@ module _ (text : List ℕ) (from : ℕ) (item : Item) (at : ℕ) (s : Scanning t
         count = omega (arith, rw (space_on text at h n) at s.count);
       }
 
-  closes : scanned item (first_item (drop at text)) ≡ ended_by item (first_item (drop at text)) → closed_at text item at ≡ found_at text from
+  closes : scanned item (first_item (drop at text)) ≡ ended_by item (first_item (drop at text))
+      → closed_at text item at ≡ found_at text from
   unfolding found_at closed_at
   closes f = ap₂ found (sym f ∙ s.left) s.count
 

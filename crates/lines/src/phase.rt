@@ -6,7 +6,7 @@ use crate::answer::{answer_header, answer_word};
 use input_lines::header::{Header, read_header};
 
 // The header is awaited; or words, under a header; or nothing more is answered.
-#[derive(Drop)]
+#[derive(Clone, Copy)]
 pub enum Phase {
     First,
     Words(Header),

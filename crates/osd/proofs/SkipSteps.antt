@@ -22,7 +22,7 @@ use Rattle.parts.specs.declared.flips.Flips.{Flips}
 use Rattle.parts.specs.Parts.{PartsOf, told, Made}
 use Rattle.parts.specs.Chains.{slot_of, last_in, Chained, Shut, At, Next, Tabled}
 use Rattle.parts.proofs.ChainLaws.{last_slot, last_none}
-use Rattle.osd.specs.Inner.BestFrom.{bestFrom}
+use Rattle.osd.specs.Inner.BestFrom.{best_from}
 use Rattle.osd.proofs.PatternCount.{tried_count, patterns_mono}
 
 module _ (p : Prepared) (parts chains : List ℕ) (tab : Tabled p parts chains) where
@@ -65,7 +65,7 @@ module _ (p : Prepared) (parts chains : List ℕ) (tab : Tabled p parts chains) 
     next_nowhere from to (suc (suc (suc k))) r n some i a b l = absurd (omega (arith, n.more (omega arith)))
 
     passed : (from to may r : ℕ) (x : Best) → Next parts chains part from to may r → to ≤ p.size → 0 < may
-        → bestFrom p r may flips x ≡ bestFrom p to may flips x
+        → best_from p r may flips x ≡ best_from p to may flips x
     passed from to may r x n l some =
         search_run (λ i. i) (tried (plan_of p)) p.size r to may flips x n.high l (λ e. omega arith)
         (λ k a b. next_nowhere from to may r n some k a b (omega arith))
@@ -79,23 +79,23 @@ module _ (p : Prepared) (parts chains : List ℕ) (tab : Tabled p parts chains) 
 
     -- all ranks that are left are kept, and from the last one back those are passed over that lead nowhere
     pub kept_start : (from r may : ℕ) (b : Best) → Next parts chains part from p.size may r → 0 < may
-        → (x : Best) → b ≡ tried (plan_of p) flips x → b ≡ bestFrom p r may flips x
+        → (x : Best) → b ≡ tried (plan_of p) flips x → b ≡ best_from p r may flips x
     kept_start from r may b n some x e =
         e ∙ sym (passed from p.size may r x n (omega arith) some
         ∙ search_end (λ i. i) (tried (plan_of p)) p.size p.size may flips x refl)
 
     -- rank j is flipped, and from it back those are passed over that lead nowhere
     pub kept_turn : (from j end r may : ℕ) (b c x : Best) → end ≡ j + 1 → end ≤ p.size → Next parts chains part from j may r → 0 < may
-        → b ≡ bestFrom p end may flips x → c ≡ bestFrom p (j + 1) (may - 1) (flips ⊕ 2 ^ j) b → c ≡ bestFrom p r may flips x
+        → b ≡ best_from p end may flips x → c ≡ best_from p (j + 1) (may - 1) (flips ⊕ 2 ^ j) b → c ≡ best_from p r may flips x
     kept_turn from j end r may b c x back l n some e q =
-        q ∙ ap (bestFrom p (j + 1) (may - 1) (flips ⊕ 2 ^ j)) (e ∙ ap (λ (i : ℕ). bestFrom p i may flips x) back)
+        q ∙ ap (best_from p (j + 1) (may - 1) (flips ⊕ 2 ^ j)) (e ∙ ap (λ (i : ℕ). best_from p i may flips x) back)
         ∙ sym (search_some (λ i. i) (tried (plan_of p)) p.size j may flips x (omega arith) (λ z. omega arith))
         ∙ sym (passed from j may r x n (omega arith) some)
 
 -- there is room in the count for what the patterns that flip rank r may add
 pub room : (p : Prepared) (from r may flips : ℕ) (x b : Best) → from ≤ r → r < p.size → (may ≡ 0 → ⊥)
     → x.count + patterns (p.size - from) may ≤ most_counted
-    → b ≡ bestFrom p (r + 1) may flips x → b.count + patterns (p.size - (r + 1)) (may - 1) ≤ most_counted
+    → b ≡ best_from p (r + 1) may flips x → b.count + patterns (p.size - (r + 1)) (may - 1) ≤ most_counted
 room p from r may flips x b h l some most e =
     omega (
       arith,

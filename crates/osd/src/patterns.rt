@@ -8,7 +8,7 @@ ghost use Rattle.prepare.specs.PlanOf.{plan_of};
 ghost use Rattle.candidates.specs.As.{as_best, most_counted};
 ghost use Rattle.parts.specs.Parts.{Made};
 ghost use Rattle.parts.specs.Chains.{Tabled};
-ghost use Rattle.osd.specs.Inner.BestFrom.{bestFrom};
+ghost use Rattle.osd.specs.Inner.BestFrom.{best_from};
 
 use candidates::best::Best;
 use candidates::pattern::pattern;
@@ -47,7 +47,7 @@ fn keep<'a>(
 ) -> Best
     requires fits { Fits (plan_of p) × (symbols.now ≡ p.symbols) × Made p flips × (0 < may → Tabled p parts.now chains.now) }
     requires rank_le_size { (rank.0 ≤ p.size) × (best.count + patterns (p.size - rank.0) may ≤ most_counted) }
-    ensures { as_best result ≡ bestFrom p rank.0 may flips.ranks (as_best best) }
+    ensures { as_best result ≡ best_from p rank.0 may flips.ranks (as_best best) }
 {
     // With no flip left the pattern is all. `pattern` is called here and below, since a function that is called in one place alone is
     // compiled into its caller, and keep would then copy the prepared word at each call of flip.
@@ -80,7 +80,7 @@ fn flip<'a>(
 ) -> Best
     requires fits { Fits (plan_of p) × (symbols.now ≡ p.symbols) × Made p flips × Tabled p parts.now chains.now }
     requires rank_lt_size { (rank.0 < p.size) × (0 < may) × (best.count + patterns (p.size - (rank.0 + 1)) (may - 1) ≤ most_counted) }
-    ensures { as_best result ≡ bestFrom p (rank.0 + 1) (may - 1) (flips.ranks ⊕ 2 ^ rank.0) (as_best best) }
+    ensures { as_best result ≡ best_from p (rank.0 + 1) (may - 1) (flips.ranks ⊕ 2 ^ rank.0) (as_best best) }
 {
     let i = rank.0 as usize;
     let made = flips.with(rank, parts[i]);

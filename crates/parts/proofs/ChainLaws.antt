@@ -54,8 +54,8 @@ chained_start parts chains none =
     record { heads = λ z. none (slot_of z) (omega (arith, mod-lt z {m = 1024} (omega arith))); links = λ j l. absurd (omega arith) }
 
 -- rank j is linked to the last rank of its slot, and is the last one itself
-pub chained_turn : (parts chains : List ℕ) (j s : ℕ) → Chained parts j chains → s ≡ slot_of (get_or parts j 0) → length chains ≡ 1088 → j < 64
-    → Chained parts (j + 1) (set (set chains j (get_or chains s 0)) s (j + 1))
+pub chained_turn : (parts chains : List ℕ) (j s : ℕ) → Chained parts j chains → s ≡ slot_of (get_or parts j 0) → length chains ≡ 1088
+    → j < 64 → Chained parts (j + 1) (set (set chains j (get_or chains s 0)) s (j + 1))
 chained_turn parts chains j s c e full low =
     let v = get_or chains s 0 in
     let linked = set chains j v in

@@ -5,7 +5,7 @@ ghost use Rattle.field.specs.Field.{◌⊕◌};
 use ranks::Rank;
 
 // The ranks that are flipped, bit j for rank j, and the non-binary part of the pattern in which all others are kept.
-#[derive(Drop)]
+#[derive(Clone, Copy)]
 pub struct Flips {
     pub ranks: u64,
     pub part: u16,

@@ -32,7 +32,7 @@ use Rattle.prepare.specs.PlanOf.{plan_of}
 use Rattle.prepare.specs.declared.by_rank.ByRank.{ByRank}
 use Rattle.prepare.specs.Inner.ByRank.{Gathers, ranked}
 use Rattle.table.specs.Table.{Cells}
-use Rattle.prepare.specs.Inner.RowSums.{RowSums, rowSum}
+use Rattle.prepare.specs.Inner.RowSums.{RowSums, row_sum}
 use Rattle.prepare.proofs.RankLaws.{word_above}
 use Rattle.prepare.proofs.RowSumLaws.{symbol_is}
 
@@ -123,7 +123,7 @@ module _ (m t : ℕ) (known : Known m t) (n : ℕ) (long : n ≡ length_of m) (s
     hards = hards;
     sides = sides;
     base = λ q l.
-        made.base q (omega (arith, known.t_high)) ∙ ap (λ (u : ℕ). rowSum p.symbols b.bits u q) made.size
+        made.base q (omega (arith, known.t_high)) ∙ ap (λ (u : ℕ). row_sum p.symbols b.bits u q) made.size
         ∙ symbol_is m F (2 * t) R p.symbols b.bits (unpacked p.hards 8) q (λ j lj. cell_at q j l lj)
         (λ j lj. bit_at j (omega arith));
     weight = λ i l. weight_at i l ∙ got.reliabilities (R i) (made.order.small i);

@@ -22,7 +22,7 @@ use Rattle.search.proofs.SymbolLaws.{symbol_bits}
 use Rattle.search.proofs.BitSumLaws.{xor_none}
 use Rattle.search.proofs.LowestBit.{turn_xor}
 use Rattle.search.proofs.RankBits.{xor_bits_sum}
-use Rattle.prepare.specs.Inner.RowSums.{AddsColumn, rowSum, RowSums}
+use Rattle.prepare.specs.Inner.RowSums.{AddsColumn, row_sum, RowSums}
 use Rattle.table.proofs.StoreLaws.{zeros, zeros_at}
 
 -- the bits below k are those of the remainder
@@ -33,8 +33,8 @@ bit_low w k p l =
     ∙ mod-mod-pow (w / 2 ^ p) (k - p - 1) 1 ∙ sym (bit_shift w p)
 
 module _ (symbols : List ℕ) (bits size : ℕ) where
-  sum_low : (q : ℕ) → rowSum symbols (bits % 2 ^ size) size q ≡ rowSum symbols bits size q
-  unfolding rowSum
+  sum_low : (q : ℕ) → row_sum symbols (bits % 2 ^ size) size q ≡ row_sum symbols bits size q
+  unfolding row_sum
   sum_low q =
       xor_bits_sum _ size (bits % 2 ^ size)
       ∙ xorsum_cong size _ _ (λ j l. ap (λ (u : ℕ). u * get_or symbols (q * 63 + j) 0) (bit_low bits size j l))
@@ -44,7 +44,7 @@ module _ (symbols : List ℕ) (bits size : ℕ) where
   pub record Summed (sums : List ℕ) (rest : ℕ) : Type 0 where
     pub full : length sums ≡ 6
     pub low : rest < 2 ^ size
-    pub left : (q : ℕ) → q < 6 → get_or sums q 0 ⊕ rowSum symbols rest size q ≡ rowSum symbols bits size q
+    pub left : (q : ℕ) → q < 6 → get_or sums q 0 ⊕ row_sum symbols rest size q ≡ row_sum symbols bits size q
 
   pub summed_none : (l : List ℕ) → length l ≡ 6 → T (zeros l) → (k : ℕ) → k ≡ 2 ^ size → Summed l (bits % k)
   summed_none l e t k f =
@@ -53,7 +53,7 @@ module _ (symbols : List ℕ) (bits size : ℕ) where
         full = e;
         low = mod-lt bits (pow_pos size);
         left = λ q _.
-            let r = rowSum symbols (bits % 2 ^ size) size q in
+            let r = row_sum symbols (bits % 2 ^ size) size q in
             ap (λ (u : ℕ). u ⊕ r) (zeros_at l t q) ∙ zero_xor r ∙ sum_low q;
       })
 
@@ -61,31 +61,32 @@ module _ (symbols : List ℕ) (bits size : ℕ) where
   pub summed_more : (sums next : List ℕ) (rest : ℕ) → 0 < rest → size ≤ 63 → Summed sums rest
       → AddsColumn (count_trailing_zeros 64 rest) symbols sums next
       → Summed next (bit_and rest (rest - 1))
-  unfolding rowSum
+  unfolding row_sum
   summed_more sums next rest some fit s add = record {
     full = add.full;
     low = omega (arith, s.low, and_le_l rest (rest - 1));
     left = λ q l.
         let x = get_or symbols (q * 63 + count_trailing_zeros 64 rest) 0 in
-        let r = rowSum symbols rest size q in
+        let r = row_sum symbols rest size q in
         ap₂ ◌⊕◌ (add.sums q l) (turn_xor 64 size rest some s.low (omega arith) (λ j. get_or symbols (q * 63 + j) 0))
-        ∙ xor_swap (get_or sums q 0) x r x ∙ ap (λ (u : ℕ). get_or sums q 0 ⊕ r ⊕ u) (xor_self x) ∙ xor_zero (get_or sums q 0 ⊕ r) ∙ s.left q l;
+        ∙ xor_swap (get_or sums q 0) x r x ∙ ap (λ (u : ℕ). get_or sums q 0 ⊕ r ⊕ u) (xor_self x) ∙ xor_zero (get_or sums q 0 ⊕ r)
+        ∙ s.left q l;
   }
 
   pub summed_all : (sums : List ℕ) (rest : ℕ) → rest ≡ 0 → Summed sums rest → RowSums symbols bits size sums
-  unfolding rowSum
+  unfolding row_sum
   summed_all sums rest e s q l =
       sym (xor_zero (get_or sums q 0))
       ∙ ap (λ (u : ℕ). get_or sums q 0 ⊕ u)
-      (sym (ap (λ (u : ℕ). rowSum symbols u size q) e ∙ xor_none (λ j. get_or symbols (q * 63 + j) 0) size))
+      (sym (ap (λ (u : ℕ). row_sum symbols u size q) e ∙ xor_none (λ j. get_or symbols (q * 63 + j) 0) size))
       ∙ s.left q l
 
 -- "the sum, over reliable positions j whose bit is 1": R has the positions by rank
 pub symbol_is : (m : ℕ) → Laws m → (r : ℕ) (R : ℕ → ℕ) (symbols : List ℕ) (bits v q : ℕ)
     → ((j : ℕ) → j < length_of m - r → get_or symbols (q * 63 + j) 0 ≡ cell m (1 - 1) R (length_of m - r) j (R (length_of m - r + q)))
     → ((j : ℕ) → j < length_of m - r → bit_of bits j ≡ bit_of v (R j))
-    → rowSum symbols bits (length_of m - r) q ≡ symbol m 1 r R v (R (length_of m - r + q))
-unfolding rowSum
+    → row_sum symbols bits (length_of m - r) q ≡ symbol m 1 r R v (R (length_of m - r + q))
+unfolding row_sum
 symbol_is m F r R symbols bits v q cells same =
     xor_bits_sum _ (length_of m - r) bits ∙ xorsum_cong (length_of m - r) _ _ (λ j l. ap₂ ◌*◌ (same j l) (cells j l))
     ∙ sym (symbol_bits m F 1 r R v (R (length_of m - r + q)))

@@ -16,7 +16,7 @@ use table::Symbols;
 
 // What is by rank has the reliable set first, then the places outside. Bytes alone, since a struct that wants to be aligned is
 // copied at each call that it is passed on to.
-#[derive(Drop)]
+#[derive(Clone, Copy)]
 pub struct Prepared {
     // how many ranks are reliable, and how many are outside
     pub size: u8,

@@ -14,7 +14,7 @@ use lines::phase::{Answered, Phase};
 pub mod text; // where a line ends, and the bytes of one that has not ended
 
 // What is remembered between blocks, beside the lent 513 bytes that hold the unfinished line: what is awaited, and how many bytes are held.
-#[derive(Drop)]
+#[derive(Clone, Copy)]
 pub struct State {
     pub phase: Phase,
     pub held: usize,

@@ -8,7 +8,7 @@ use exhaustive::sent::Margin;
 use libc::STDOUT_FILENO;
 
 // What was seen of a call.
-#[derive(Drop)]
+#[derive(Clone, Copy)]
 pub struct Outcome {
     pub same: bool,
     pub refused: bool,

@@ -1,6 +1,6 @@
 -- `gf::alpha_times` meets its contract. The loop's invariant: what is moved so far is a^k times y, an element. Assumes nothing.
 use mathlib.Core.Path.{◌≡◌, ap, sym, ◌∙◌}
-use Prim.Native.Nat.{ℕ, ◌-◌}
+use Prim.Native.Nat.{ℕ}
 use native.Mathlib.Numerals.{add-one}
 use native.Mathlib.Omega.{arith}
 use Rattle.field.specs.Field.{alpha_to, times, times_alpha}

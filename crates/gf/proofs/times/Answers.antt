@@ -20,10 +20,10 @@ loop-i-preserved c =
     let k = m - (l.i + 1) in
     let d : c.double-shifted.result ≡ times_alpha m l.shifted = c.double-shifted.ensures in (
       elim c.if-rest-eq1.branch [
-        then-rest-eq1 w ↦ ap₂ (λ (u v : ℕ). u ⊕ shift_add m k (l.rest / 2) v) w.sum-is d
-          ∙ round_odd m l.i l.rest l.shifted l.sum _ (omega arith) (omega arith) l.invariant.0
+        | then-rest-eq1 w ↦ ap₂ (λ (u v : ℕ). u ⊕ shift_add m k (l.rest / 2) v) w.sum-is d
+            ∙ round_odd m l.i l.rest l.shifted l.sum _ (omega arith) (omega arith) l.invariant.0
         | else-rest-eq1 w ↦ ap₂ (λ (u v : ℕ). u ⊕ shift_add m k (l.rest / 2) v) w.sum-is d
-          ∙ round_even m l.i l.rest l.shifted l.sum _ (omega arith) (omega arith) l.invariant.0
+            ∙ round_even m l.i l.rest l.shifted l.sum _ (omega arith) (omega arith) l.invariant.0
       ],
       omega (arith, alpha_lt m l.shifted (omega arith) (omega arith)),
       omega arith,

@@ -6,7 +6,8 @@ use Rattle.table.proofs.put_row.Given as goal
 
 abbrev pub invariant-loop-p : goal.invariant-loop-p
 invariant-loop-p l =
-    (l.p ≤ 64) × Written (λ i. l.q * 64 + i) (λ i. get_or l.list i 0 + l.n - (l.own + get_or l.zech (l.from + i) 0) % l.n) l.initial.rows l.p l.rows
+    (l.p ≤ 64)
+    × Written (λ i. l.q * 64 + i) (λ i. get_or l.list i 0 + l.n - (l.own + get_or l.zech (l.from + i) 0) % l.n) l.initial.rows l.p l.rows
 
 abbrev pub decreases-loop-p : goal.decreases-loop-p
 decreases-loop-p l = 64 - l.p

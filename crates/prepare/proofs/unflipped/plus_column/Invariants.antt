@@ -6,7 +6,8 @@ use Rattle.table.proofs.StoreLaws.{Written}
 use Rattle.prepare.proofs.unflipped.plus_column.Given as goal
 
 abbrev pub invariant-loop-q : goal.invariant-loop-q
-invariant-loop-q l = (l.q ≤ 6) × Written (λ k. k) (λ k. get_or l.initial.sums k 0 ⊕ get_or l.symbols (k * 63 + l.j) 0) l.initial.sums l.q l.sums
+invariant-loop-q l =
+    (l.q ≤ 6) × Written (λ k. k) (λ k. get_or l.initial.sums k 0 ⊕ get_or l.symbols (k * 63 + l.j) 0) l.initial.sums l.q l.sums
 
 abbrev pub decreases-loop-q : goal.decreases-loop-q
 decreases-loop-q l = 6 - l.q

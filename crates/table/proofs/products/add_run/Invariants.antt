@@ -6,7 +6,9 @@ use Rattle.table.proofs.StoreLaws.{Written}
 use Rattle.table.proofs.products.add_run.Given as goal
 
 abbrev pub invariant-loop-p : goal.invariant-loop-p
-invariant-loop-p l = (l.p ≤ 64) × Written (λ i. i) (λ i. (get_or l.initial.list i 0 + get_or l.zech (l.from + i) 0) % l.n) l.initial.list l.p l.list
+invariant-loop-p l =
+    (l.p ≤ 64)
+    × Written (λ i. i) (λ i. (get_or l.initial.list i 0 + get_or l.zech (l.from + i) 0) % l.n) l.initial.list l.p l.list
 
 abbrev pub decreases-loop-p : goal.decreases-loop-p
 decreases-loop-p l = 64 - l.p

@@ -52,7 +52,8 @@ loop-p-preserved c =
     elim c.if-p-n.branch [
       | then-p-n w ↦ subst (λ (u : List ℕ). Started n (l.p + 1) u) (sym w.list-is)
           (started-more n l.p l.list l.invariant (omega arith) w.if-p-n.true)
-      | else-p-n w ↦ subst (λ (u : List ℕ). Started n (l.p + 1) u) (sym w.list-is) (started-past n l.p l.list l.invariant (omega arith) w.if-p-n.false)
+      | else-p-n w ↦ subst (λ (u : List ℕ). Started n (l.p + 1) u) (sym w.list-is)
+          (started-past n l.p l.list l.invariant (omega arith) w.if-p-n.false)
     ]
 
 pub returns : goal.returns
