@@ -32,26 +32,29 @@ folder=$prefix/
 while [ ! -e "$folder" ]; do folder=$(dirname "$folder"); done
 [ -d "$folder" ] || fail "$folder is no folder"
 [ -w "$folder" ] && [ -x "$folder" ] || fail "$folder can't be written"
-[ -w . ] || fail "the source folder can't be written, and rt builds in its target/"
+[ -w crates/malligovu ] && [ -w crates/export_c ] || fail "the source folder can't be written, and rt builds in its crates' out/"
 
 build=$(mktemp -d) || fail "there is no temporary folder"
 staged=$build/staged
 trap 'rm -rf "$build"' EXIT
 trap 'exit 1' HUP INT TERM
 
-built() {
-    "$@" >"$build/log" 2>&1 || { cat "$build/log" >&2; fail "this failed, and nothing is installed: $*"; }
+built() { # FOLDER COMMAND..
+    at=$1
+    shift
+    (cd "$at" && "$@") </dev/null >"$build/log" 2>&1 || { cat "$build/log" >&2; fail "this failed in $at, and nothing is installed: $*"; }
 }
 
 stage() { # FILE PLACE MODE
     mkdir -p "$(dirname "$staged/$2")" && cp "$1" "$staged/$2" && chmod "$3" "$staged/$2" || fail "$1 can't be copied, and nothing is installed"
 }
 
-echo "proving and building: some three minutes, the first time"
-built rt check malligovu
-built rt staticlib export
-built cc -shared -Wl,-soname,libmalligovu.so -Wl,-z,defs -Wl,--whole-archive target/staticlib/libexport.a -Wl,--no-whole-archive \
-    -o "$build/libmalligovu.so"
+echo "proving and building, which takes minutes the first time"
+# rt run builds the program and runs it, here on an empty input, which it answers with a line
+built crates/malligovu rt run
+built crates/export_c rt lib
+program=crates/malligovu/out/malligovu library=crates/export_c/out/libexport_c.a
+built . cc -shared -Wl,-soname,libmalligovu.so -Wl,-z,defs -Wl,--whole-archive "$library" -Wl,--no-whole-archive -o "$build/libmalligovu.so"
 cat >"$build/malligovu.pc" <<END
 prefix=\${pcfiledir}/../..
 includedir=\${prefix}/include
@@ -64,9 +67,9 @@ Cflags: -I\${includedir}
 Libs: -L\${libdir} -lmalligovu
 END
 echo ".so man3/malligovu.3" >"$build/call.3"
-stage target/bin/malligovu bin/malligovu 755
+stage "$program" bin/malligovu 755
 stage include/malligovu.h include/malligovu.h 644
-stage target/staticlib/libexport.a lib/libmalligovu.a 644
+stage "$library" lib/libmalligovu.a 644
 stage "$build/libmalligovu.so" lib/libmalligovu.so 755
 stage "$build/malligovu.pc" lib/pkgconfig/malligovu.pc 644
 stage man/malligovu.1 share/man/man1/malligovu.1 644

@@ -19,7 +19,6 @@ extern "C" {
 const SET_FLAGS: i32 = 4;
 const NONBLOCK: i32 = 0o4000;
 const SET_PIPE_SIZE: i32 = 1031;
-const PIPE_SIGNAL: i32 = 13;
 const CONTINUE: i32 = 18;
 const STOP: i32 = 19;
 
@@ -287,15 +286,16 @@ impl Bench {
         collect(start(Command::new("sh").arg("-c").arg(command).arg(&self.program).arg(&self.path).stdout(Stdio::piped())))
     }
 
-    /// A reader that is gone before the first write: as is usual the signal ends the program, and where that is ignored it says so.
+    /// A reader that is gone before the first write: the signal is ignored, by the program or before it, the write fails, and the program says so.
     fn no_reader(&self) -> usize {
-        let with = |command: &str| {
+        let says = |command: &str| {
             let (reader, writer) = pipe().unwrap();
             drop(reader);
-            collect(start(Command::new("sh").arg("-c").arg(command).arg(&self.program).arg(&self.path).stdout(OwnedFd::from(writer))))
+            let ran = collect(start(Command::new("sh").arg("-c").arg(command).arg(&self.program).arg(&self.path).stdout(OwnedFd::from(writer))));
+            ran == ended(&[], said("output", "Broken pipe"))
         };
-        self.check("a reader that went away", with("exec \"$0\" <\"$1\"") == Ran { out: Vec::new(), error: Vec::new(), status: PIPE_SIGNAL })
-            + self.check("the same, the signal ignored", with("trap '' PIPE; exec \"$0\" <\"$1\"") == ended(&[], said("output", "Broken pipe")))
+        self.check("a reader that went away", says("exec \"$0\" <\"$1\""))
+            + self.check("the same, the signal ignored before", says("trap '' PIPE; exec \"$0\" <\"$1\""))
     }
 
     fn closed(&self) -> usize {

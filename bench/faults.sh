@@ -9,8 +9,8 @@ build=$(mktemp -d)
 trap 'rm -rf "$build"' EXIT
 
 if [ -z "$1" ]; then
-    rt check malligovu >"$build/log" 2>&1 || { cat "$build/log"; exit 1; }
-    program=target/bin/malligovu
+    (cd crates/malligovu && rt run) </dev/null >"$build/log" 2>&1 || { cat "$build/log"; exit 1; }
+    program=crates/malligovu/out/malligovu
 fi
 gcc -O2 -Wall -Wextra -shared -fPIC -o "$build/fault.so" bench/fault.c
 rustc -O --edition 2021 -o "$build/faults" bench/faults.rs

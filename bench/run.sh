@@ -6,12 +6,13 @@
 # left out where they are missing. What it builds goes to a temporary folder. It fails where an answer differs.
 set -e
 cd "$(dirname "$0")/.."
-library=target/staticlib/libexport.a
+library=crates/export_c/out/libexport_c.a
+malligovu=crates/malligovu/out/malligovu
 build=$(mktemp -d)
 trap 'rm -rf "$build"' EXIT
 
-rt staticlib export >"$build/log" 2>&1 || { cat "$build/log"; exit 1; }
-rust() { name=$1; shift; rustc -O --edition 2021 -o "$build/$name" "bench/$name.rs" -L native=target/staticlib -l static=export "$@"; }
+proved() { (cd "$1" && rt "$2") </dev/null >"$build/log" 2>&1 || { cat "$build/log"; exit 1; }; } # FOLDER VERB
+rust() { name=$1; shift; rustc -O --edition 2021 -o "$build/$name" "bench/$name.rs" -L native="$(dirname "$library")" -l static=export_c "$@"; }
 c() { gcc -O2 -Wall -Wextra -I include -o "$build/$1" "$2" "$library"; }
 # the two versions of bench/plain.c. Functions are aligned, or their time would hang on what they are linked with
 plain() {
@@ -19,6 +20,7 @@ plain() {
     gcc -O3 -falign-functions=64 -Wall -Wextra -DSTRAIGHT -Dplain_start=straight_start -Dplain_decode=straight_decode -c -o "$build/straight.o" bench/plain.c
 }
 
+proved crates/export_c lib
 if [ "$1" = picture ]; then
     rust picture
     "$build/picture" "${2:-1000000}" docs/word-error-rate.svg
@@ -46,25 +48,25 @@ else
 fi
 
 echo "== the program, m = 6, t = 3, order 0, 10,000 words"
-rt check malligovu >"$build/log" 2>&1 || { cat "$build/log"; exit 1; }
+proved crates/malligovu run
 "$build/program" lines >"$build/lines"
 counted() {
     env -i "$(command -v valgrind)" --tool=callgrind --callgrind-out-file="$build/whole" "$@" >/dev/null 2>&1
     sed -n 's/^\(totals\|summary\): //p' "$build/whole" | head -n 1
 }
 if command -v valgrind >/dev/null; then
-    whole=$(counted target/bin/malligovu <"$build/lines")
+    whole=$(counted "$malligovu" <"$build/lines")
     calls=$(counted --toggle-collect=malligovu_decode "$build/program" decodes)
     echo "instructions a word: program $((whole / 10000)), its decode calls $((calls / 10000)), $(((whole * 100 + calls / 2) / calls)) in 100"
     for header in '6 3 0 1' '6 3 0'; do
         sed "1s/.*/$header/" "$build/lines" >"$build/other"
         awk 'NR > 1 { for (i = 1; i <= NF; i++) $i = $i < 0 ? -48 : 48 } 1' "$build/other" >"$build/sliced"
-        other=$(counted target/bin/malligovu <"$build/other") sliced=$(counted target/bin/malligovu <"$build/sliced")
+        other=$(counted "$malligovu" <"$build/other") sliced=$(counted "$malligovu" <"$build/sliced")
         echo "and under the header $header: $((other / 10000)); hard-sliced, all values 48 or -48: $((sliced / 10000))"
     done
 fi
 if [ -x /usr/bin/time ]; then
-    /usr/bin/time -f "%e seconds, %M KB at most" target/bin/malligovu <"$build/lines" >/dev/null
+    /usr/bin/time -f "%e seconds, %M KB at most" "$malligovu" <"$build/lines" >/dev/null
 fi
 
 echo "== stack, and what is linked"

@@ -21,10 +21,11 @@
    Any number may be passed for m, t, s, order and the message, and any length. A pointer points to as many values as the length
    after it says and is aligned for them; a null pointer goes only with a length of 0. Memory that is written overlaps no other.
 
-   For x86-64 Linux. The functions keep nothing from call to call, allocate nothing, and may run in several threads at once. They
-   need memcpy and memset of the C library and nothing else. Encode and read take some 100 and 240 bytes of stack and, at m = 6
-   and t = 3, 400 and 490 instructions; read of a word that it refuses with 10, and malligovu_fault of it, 390 bytes and up to some
-   3,300 instructions. What they take is measured, not proved. */
+   For Linux on x86-64-v2 or above. The functions keep nothing from call to call, allocate nothing, and may run in several threads
+   at once. They need memcpy and memset of the C library and nothing else. Encode and read take some 100 and 240 bytes of stack and,
+   at m = 6 and t = 3, 400 and 490 instructions; read of a word that it refuses with 10, and malligovu_fault of it, 390 bytes and up
+   to some 3,300 instructions. What they take is measured, not proved: here and below with an older kit, rattle-kit-5b, before the
+   port to rattle-kit-13f, and not again since. */
 #ifndef MALLIGOVU_H
 #define MALLIGOVU_H
 
