@@ -4,7 +4,7 @@ ghost use Rattle.std.specs.Prelude.{◌≤◌, ◌<◌};
 use crate::roots::{lowest_power, powers};
 
 // Read's answer.
-#[derive(Drop)]
+#[derive(Clone, Copy)]
 pub struct Told {
     pub refusal: u64,
     pub message: u64,

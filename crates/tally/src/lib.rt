@@ -5,7 +5,9 @@ ghost use Rattle.std.specs.Prelude.{◌<◌};
 
 use exhaustive::candidates::one_more;
 use exhaustive::sent::Margin;
-use libc::STDOUT_FILENO;
+
+// Standard output.
+const STDOUT_FILENO: i32 = 1;
 
 // What was seen of a call.
 #[derive(Clone, Copy)]

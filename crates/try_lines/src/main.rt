@@ -16,8 +16,10 @@ mod printed; // what is printed
 mod quoted; // texts in brackets, and the bytes that they spell
 mod cases; // a case and its answer
 
-use bytes::scan::find;
-use libc::STDIN_FILENO;
+use crate::quoted::find;
+
+// Standard input.
+const STDIN_FILENO: i32 = 0;
 
 // The case of a line stands behind its name, or is its own name.
 fn run_line(line: &[u8]) {

@@ -1,7 +1,8 @@
 // What is printed: texts, numbers, and answers with any bytes.
 ghost use Rattle.std.specs.Prelude.{◌≤◌};
 
-use libc::STDOUT_FILENO;
+// Standard output.
+const STDOUT_FILENO: i32 = 1;
 
 pub fn put_text(text: &[u8]) {
     io::write_all(STDOUT_FILENO, text);

@@ -12,9 +12,11 @@ ghost use Rattle.std.specs.Prelude.{◌≡◌, ◌<◌, length};
 use crate::calls::{decode_line, encode_line, read_line};
 use cases::scan::after;
 use cases::text::put_text;
-use libc::STDIN_FILENO;
 
 mod calls; // the three calls
+
+// Standard input.
+const STDIN_FILENO: i32 = 0;
 
 // The first letter tells the calls apart. A call that is an example of the paper has a P and its number before it.
 fn answer(line: &[u8])
