@@ -88,7 +88,7 @@ module _ (m : ℕ) (F : Laws m) where
   pw_mod : (s : ℕ) → alpha_to m (s % length_of m) ≡ alpha_to m s
   pw_mod s =
       sym (ap (alpha_to m) (sym (div-add-mod' s (length_of m))
-          ∙ ap (λ (u : ℕ). u + s % length_of m) (mul_comm (s / length_of m) (length_of m)))
+      ∙ ap (λ (u : ℕ). u + s % length_of m) (mul_comm (s / length_of m) (length_of m)))
       ∙ pw_add (length_of m * (s / length_of m)) (s % length_of m)
       ∙ ap (λ (u : ℕ). times m u (alpha_to m (s % length_of m))) (pw_round m F (s / length_of m))
       ∙ comm 1 (alpha_to m (s % length_of m)) ∙ one (alpha_to m (s % length_of m)) (pw_lt m F (s % length_of m)))

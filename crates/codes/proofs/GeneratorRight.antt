@@ -187,7 +187,7 @@ test_says m o r d g F x = record {
       (eqb i j)
       (below d (apart m o i) (below d (λ i. all d (apart m o i)) (search (and_left, and_right)) i hi) j hj)
       (subst (λ (u : ℕ). T (eqb (start m o i * 2 ^ turn m o i % length_of m) u)) e
-          (eqb_refl (start m o i * 2 ^ turn m o i % length_of m)))));
+      (eqb_refl (start m o i * 2 ^ turn m o i % length_of m)))));
 }
 
 nine : T (all 3 (λ i. all 3 (λ j. right (4 + i) 1 (2 * (1 + j)) (parity_of (4 + i) (1 + j)) (generator_of (4 + i) (1 + j)))))

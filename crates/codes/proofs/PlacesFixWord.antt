@@ -57,7 +57,7 @@ module _ (m : ℕ) (F : Laws m) (o s : ℕ) (os : o + s ≡ 1) (R : ℕ → ℕ)
 
   iff : (w : ℕ)
       → (ZeroFrom m o r (bit_of w) × ((j : ℕ) → j < k → bit_of w (R j) ≡ b j)) ↔
-          ((p : ℕ) → p < length_of m → bit_of w p ≡ lagrange m s R k b p)
+      ((p : ℕ) → p < length_of m → bit_of w p ≡ lagrange m s R k b p)
   iff w = candidate m F o s os R k r b (bit_of w) ord size hb (λ p _. bit_elem m F w p)
 
   pub fits→binary : (w : ℕ) → Fits w → Binary × (w ≡ word_of (length_of m) (lagrange m s R k b))

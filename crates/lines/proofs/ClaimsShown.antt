@@ -47,7 +47,7 @@ answered_at_once input =
     let ends : end_says (after_block start all) ≡ [] = ap end_says (after_append start input (newline ∷ []))
     ∙ newline_then_end (after_block start input) in
     sym (append-nil (block_says start all)) ∙ ap (λ (l : List ℕ). block_says start all ++ l)
-        (sym (still_end (after_block start all) ∙ ends))
+    (sym (still_end (after_block start all) ∙ ends))
     ∙ sym (still_block start all []) ∙ ap (still start) (append-nil all) ∙ still_start all
 
 pub nothing_after_the_end : NothingAfterTheEnd

@@ -87,7 +87,7 @@ returns-then-word-sent-gt0 c =
     let l = c.lowest_one in
     let h = subst (λ (n : ℕ). Lowest (n - a.s) 64 (bit_of a.word) l.result) c.length_of-length.ensures.0 l.ensures in
     c.refuse-then-word-sent-gt0.ensures ∙ sym (fault_unsent a.m a.t a.s a.word 64 l.result (short at.After-length_of-length)
-        (no-pad at.Else-word-length-gt0) h)
+    (no-pad at.Else-word-length-gt0) h)
 
 pub word_of-requires : goal.word_of-requires
 word_of-requires c =
