@@ -10,15 +10,8 @@ use lib.ListN.{length, take, get_or, set}
 use lib.Seq.{paste, paste-zero, paste-suc, length-paste, take-paste, take-append-add, take_all, length-take-le}
 use borrow.Author.Rules.{rules}
 use Rattle.stream.specs.Inner.Held.{Holds}
-use Rattle.stream.proofs.text.hold.Statement.{statement}
-use Rattle.stream.proofs.text.hold.Tie as tie
-
-record Copied (before : List ℕ) (held : ℕ) (piece : List ℕ) (count : ℕ) (line : List ℕ) (i : ℕ) : Type 0 where
-  at : i ≤ count
-  room : held + count ≤ length before
-  there : count ≤ length piece
-  value : line ≡ paste before held piece i
-  size : length line ≡ length before
+use Rattle.stream.proofs.text.hold.Invariants.{Copied}
+use Rattle.stream.proofs.text.hold.Goals as goal
 
 copied_more : (before : List ℕ) (held : ℕ) (piece : List ℕ) (count : ℕ) (line : List ℕ) (i : ℕ) → Copied before held piece count line i
     → i < count
@@ -59,22 +52,10 @@ copied_all before held piece count line i k h c l s =
       size = k.size ∙ s;
     }
 
-abbrev invariant-loop : tie.invariant-loop
-invariant-loop line₀ held piece count i₀ line i = Copied line₀ held piece count line i
-
-abbrev decreases-loop : tie.decreases-loop
-decreases-loop line₀ held piece count i₀ line i = count - i
-
-sub-least : tie.Need-overflow-sub-least invariant-loop decreases-loop
-sub-least c = omega arith
-
-least-requires : tie.Need-least-requires invariant-loop decreases-loop
-least-requires c κs = search rules
-
-loop-holds : tie.Need-loop-init invariant-loop decreases-loop
-loop-holds c =
-    let a = c.before.before.before.args in
-    let e = c.least.ensures in
+pub loop-i-init : goal.loop-i-init
+loop-i-init c =
+    let a = c.args in
+    let e = c.least-count.ensures in
     record {
       at = omega arith;
       room = omega arith;
@@ -83,55 +64,32 @@ loop-holds c =
       size = search rules;
     }
 
-shared-slice-read-line : tie.Need-shared-slice-read-line invariant-loop decreases-loop
-shared-slice-read-line c = omega (arith, c.before.before.loop.invariant.there)
+pub bounds-piece-i : goal.bounds-piece-i
+bounds-piece-i c = omega (arith, c.loop-i.invariant.there)
 
-add-line : tie.Need-overflow-add-line invariant-loop decreases-loop
-add-line c = let k = c.before.before.loop.invariant in omega arith
+pub overflow_add-line : goal.overflow_add-line
+overflow_add-line c = let k = c.loop-i.invariant in omega arith
 
-slice-write-line : tie.Need-slice-write-line invariant-loop decreases-loop
-slice-write-line c = let k = c.before.before.loop.invariant in omega arith
+pub bounds-line-held : goal.bounds-line-held
+bounds-line-held c = let k = c.loop-i.invariant in omega arith
 
-add-i : tie.Need-overflow-add-i invariant-loop decreases-loop
-add-i c = let k = c.before.before.loop.invariant in omega arith
+pub overflow_add-i : goal.overflow_add-i
+overflow_add-i c = let k = c.loop-i.invariant in omega arith
 
-loop-less : tie.Need-loop-smaller invariant-loop decreases-loop
-loop-less c = omega arith
+pub loop-i-preserved : goal.loop-i-preserved
+loop-i-preserved c =
+    let a = c.args in
+    let l = c.loop-i in
+    copied_more a.line.now a.held a.piece.now _ l.line l.i l.invariant c.loop-i-test.true
 
-loop-again : tie.Need-loop-preserved invariant-loop decreases-loop
-loop-again c =
-    let a = c.before.before.before.before.before.before.args in
-    let l = c.before.before.loop in
-    copied_more a.line.now a.held a.piece.now _ l.line l.i l.invariant c.before.loop-test.true
+pub overflow_add-result : goal.overflow_add-result
+overflow_add-result c = let k = c.loop-i.invariant in omega arith
 
-add-result : tie.Need-overflow-add-result invariant-loop decreases-loop
-add-result c = let k = c.before.loop.invariant in omega arith
+pub shape_of-line : goal.shape_of-line
+shape_of-line c = c.loop-i.invariant.size
 
-same_length : tie.Need-same-length invariant-loop decreases-loop
-same_length c = c.before.loop.invariant.size
-
-returns : tie.Need-returns invariant-loop decreases-loop
+pub returns : goal.returns
 returns c =
-    let s = c.before.before.before.before.before in
-    let l = c.before.loop in
-    copied_all s.args.line.now s.args.held s.args.piece.now _ l.line l.i l.invariant c.loop-test.false
-    c.before.before.least.ensures s.requires.0 s.requires.1
-
-pub hold-spec : {M : Type 1} → statement M
-hold-spec =
-    tie.close
-    (tie.spec
-    invariant-loop
-    decreases-loop
-    sub-least
-    least-requires
-    loop-holds
-    shared-slice-read-line
-    add-line
-    slice-write-line
-    add-i
-    loop-less
-    loop-again
-    add-result
-    same_length
-    returns)
+    let l = c.loop-i in
+    copied_all c.args.line.now c.args.held c.args.piece.now _ l.line l.i l.invariant c.loop-i-test.false
+    c.least-count.ensures c.requires.0 c.requires.1
