@@ -15,7 +15,8 @@ use Rattle.codec.specs.Called.{fault_of, reading_of}
 -- what these facts open
 unfoldable computing : ℕ
 unfolding
-    reading_of fault_of read_refusal bytes_of unpacked lowest_of entry_of dimension_of parity_of generator_of systematic with_parity remainder_by
+    reading_of fault_of read_refusal bytes_of unpacked lowest_of entry_of dimension_of parity_of generator_of systematic with_parity
+        remainder_by
     bit_of value_at length_of modulus reduction xor_sum times_alpha shift_add times alpha_to bit_times ◌⊕◌
 computing = 0
 

@@ -11,6 +11,7 @@ unfolding length_of entry_of dimension_of parity_of generator_of systematic with
 words = (refl, refl, refl)
 
 -- the table's k and octal generators, at its corners
-pub table : (dimension_of 4 1 ≡ 11) × (dimension_of 4 3 ≡ 5) × (dimension_of 6 1 ≡ 57) × (dimension_of 6 3 ≡ 45) × (generator_of 5 2 ≡ 0o3551)
+pub table : (dimension_of 4 1 ≡ 11) × (dimension_of 4 3 ≡ 5) × (dimension_of 6 1 ≡ 57) × (dimension_of 6 3 ≡ 45)
+    × (generator_of 5 2 ≡ 0o3551)
 unfolding entry_of dimension_of generator_of
 table = (refl, refl, refl, refl, refl)

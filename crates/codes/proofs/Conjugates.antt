@@ -39,7 +39,8 @@ module _ (m : ℕ) (F : Laws m) where
   open F use {comm, assoc, over_xor, times_lt, one, inverse, pw_zero, pw_add, pw_inj, pw_n, n_pos}
 
   pub later : (y p e : ℕ) → times m (alpha_to m e) (times m y (alpha_to m (p * e))) ≡ times m y (alpha_to m (suc p * e))
-  later y p e = left_comm m F (alpha_to m e) y (alpha_to m (p * e)) ∙ ap (times m y) (sym (pw_add e (p * e)) ∙ ap (alpha_to m) (omega arith))
+  later y p e = left_comm m F (alpha_to m e) y (alpha_to m (p * e))
+      ∙ ap (times m y) (sym (pw_add e (p * e)) ∙ ap (alpha_to m) (omega arith))
 
   -- by Horner's rule
   pub evaluate_sum : (k : ℕ) (c : ℕ → ℕ) → ((p : ℕ) → c p < 2 ^ m) → (e : ℕ)
@@ -86,7 +87,8 @@ module _ (m : ℕ) (F : Laws m) where
   -- exponents count by n
   pw_mod : (s : ℕ) → alpha_to m (s % length_of m) ≡ alpha_to m s
   pw_mod s =
-      sym (ap (alpha_to m) (sym (div-add-mod' s (length_of m)) ∙ ap (λ (u : ℕ). u + s % length_of m) (mul_comm (s / length_of m) (length_of m)))
+      sym (ap (alpha_to m) (sym (div-add-mod' s (length_of m))
+          ∙ ap (λ (u : ℕ). u + s % length_of m) (mul_comm (s / length_of m) (length_of m)))
       ∙ pw_add (length_of m * (s / length_of m)) (s % length_of m)
       ∙ ap (λ (u : ℕ). times m u (alpha_to m (s % length_of m))) (pw_round m F (s / length_of m))
       ∙ comm 1 (alpha_to m (s % length_of m)) ∙ one (alpha_to m (s % length_of m)) (pw_lt m F (s % length_of m)))

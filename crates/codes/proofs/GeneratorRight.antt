@@ -186,11 +186,13 @@ test_says m o r d g F x = record {
       (λ i j hi hj e. eqb→eq i j (implies (eqb (start m o i * 2 ^ turn m o i % length_of m) (start m o j * 2 ^ turn m o j % length_of m))
       (eqb i j)
       (below d (apart m o i) (below d (λ i. all d (apart m o i)) (search (and_left, and_right)) i hi) j hj)
-      (subst (λ (u : ℕ). T (eqb (start m o i * 2 ^ turn m o i % length_of m) u)) e (eqb_refl (start m o i * 2 ^ turn m o i % length_of m)))));
+      (subst (λ (u : ℕ). T (eqb (start m o i * 2 ^ turn m o i % length_of m) u)) e
+          (eqb_refl (start m o i * 2 ^ turn m o i % length_of m)))));
 }
 
 nine : T (all 3 (λ i. all 3 (λ j. right (4 + i) 1 (2 * (1 + j)) (parity_of (4 + i) (1 + j)) (generator_of (4 + i) (1 + j)))))
-unfolding entry_of dimension_of parity_of generator_of length_of evaluate list_of bit_of alpha_to times shift_add times_alpha reduction modulus
+unfolding entry_of dimension_of parity_of generator_of length_of evaluate list_of bit_of alpha_to times shift_add times_alpha reduction
+    modulus
     bit_times ◌⊕◌
 nine = tt
 

@@ -46,7 +46,8 @@ module _ (m : ℕ) (F : Laws m) (o s : ℕ) (os : o + s ≡ 1) (R : ℕ → ℕ)
 
 -- the decoder's step: the codeword with the bits b j at R j, for j below k, is there if and only if the Lagrange word has
 -- no symbol but 0 and 1, and is then that word
-module _ (m : ℕ) (F : Laws m) (o s : ℕ) (os : o + s ≡ 1) (R : ℕ → ℕ) (k r : ℕ) (b : ℕ → ℕ) (ord : AllPlaces m R) (size : k + r ≡ length_of m)
+module _ (m : ℕ) (F : Laws m) (o s : ℕ) (os : o + s ≡ 1) (R : ℕ → ℕ) (k r : ℕ) (b : ℕ → ℕ) (ord : AllPlaces m R)
+    (size : k + r ≡ length_of m)
     (hb : (j : ℕ) → j < k → b j < 2 ^ m) where
   abbrev pub Fits : ℕ → Type 0
   Fits w = (w < 2 ^ length_of m) × ZeroFrom m o r (bit_of w) × ((j : ℕ) → j < k → bit_of w (R j) ≡ b j)
@@ -55,7 +56,8 @@ module _ (m : ℕ) (F : Laws m) (o s : ℕ) (os : o + s ≡ 1) (R : ℕ → ℕ)
   Binary = (p : ℕ) → p < length_of m → lagrange m s R k b p < 2
 
   iff : (w : ℕ)
-      → (ZeroFrom m o r (bit_of w) × ((j : ℕ) → j < k → bit_of w (R j) ≡ b j)) ↔ ((p : ℕ) → p < length_of m → bit_of w p ≡ lagrange m s R k b p)
+      → (ZeroFrom m o r (bit_of w) × ((j : ℕ) → j < k → bit_of w (R j) ≡ b j)) ↔
+          ((p : ℕ) → p < length_of m → bit_of w p ≡ lagrange m s R k b p)
   iff w = candidate m F o s os R k r b (bit_of w) ord size hb (λ p _. bit_elem m F w p)
 
   pub fits→binary : (w : ℕ) → Fits w → Binary × (w ≡ word_of (length_of m) (lagrange m s R k b))

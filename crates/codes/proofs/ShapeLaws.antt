@@ -34,7 +34,8 @@ dimension_small m t k = leb→le (dimension_of m t) 57 (each_code (λ x y. leb (
 pub parity_full : (m t : ℕ) → Known m t → parity_of m t + dimension_of m t ≡ length_of m
 unfolding entry_of dimension_of parity_of length_of
 parity_full m t k =
-    eqb→eq (parity_of m t + dimension_of m t) (length_of m) (each_code (λ x y. eqb (parity_of x y + dimension_of x y) (length_of x)) tt m t k)
+    eqb→eq (parity_of m t + dimension_of m t) (length_of m) (each_code (λ x y. eqb (parity_of x y + dimension_of x y) (length_of x)) tt m
+        t k)
 
 -- there are fewer roots than positions
 pub length_large : (m : ℕ) → 4 ≤ m → m ≤ 6 → 15 ≤ length_of m

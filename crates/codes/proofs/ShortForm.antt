@@ -127,7 +127,8 @@ module _ (m : ℕ) (F : Laws m) (b r : ℕ) (first : b ≤ 1) (R : ℕ → ℕ) 
     at_outside =
         ap (λ (u : ℕ). product_over m (alpha_to m (U o)) (times m u (alpha_to m (U o * b))) (others (λ v. alpha_to m (U v)) r o))
         (c_cell (U o) cell_lt)
-        ∙ sym (times_product m F (alpha_to m (U o)) (alpha_to m (U o * b)) (cell m (1 - b) R K j (U o)) (others (λ v. alpha_to m (U v)) r o))
+        ∙ sym (times_product m F (alpha_to m (U o)) (alpha_to m (U o * b)) (cell m (1 - b) R K j (U o))
+            (others (λ v. alpha_to m (U v)) r o))
 
     spread_lt : spread m b r U o (U o) < 2 ^ m
     unfolding spread

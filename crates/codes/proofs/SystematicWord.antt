@@ -79,7 +79,8 @@ module _ (d g : ℕ) (top : g / 2 ^ d ≡ 1) where
         twice : g * 2 ^ suc k ≡ g * 2 ^ k * 2
         twice = ap (λ (x : ℕ). g * x) (pow-suc 2 k) ∙ sym (mul_assoc g (2 ^ k) 2)
 
-    remainder_at : (k c e : ℕ) → d + k ≤ length_of m → o ≤ e → e < o + r → value_at m (bit_of (remainder_by d g k c)) e ≡ value_at m (bit_of c) e
+    remainder_at : (k c e : ℕ) → d + k ≤ length_of m → o ≤ e → e < o + r → value_at m (bit_of (remainder_by d g k c)) e
+        ≡ value_at m (bit_of c) e
     unfolding remainder_by
     remainder_at zero c e h a b = refl
     remainder_at (suc k) c e h a b =

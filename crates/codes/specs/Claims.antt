@@ -42,7 +42,8 @@ CellsAreThePapers = (m : ℕ) → 4 ≤ m → m ≤ 6 → (R : ℕ → ℕ) (k j
     → cell m 0 R k j p ≡ quotients m (alpha_to m p) (alpha_to m (R j)) (others (λ i. alpha_to m (R i)) k j)
 
 abbrev pub CellsAreShort : Type 0
-CellsAreShort = (m b r : ℕ) → 4 ≤ m → m ≤ 6 → b ≤ 1 → r ≤ length_of m → (R : ℕ → ℕ) → AllPlaces m R → (j o : ℕ) → j < length_of m - r → o < r
+CellsAreShort = (m b r : ℕ) → 4 ≤ m → m ≤ 6 → b ≤ 1 → r ≤ length_of m → (R : ℕ → ℕ) → AllPlaces m R → (j o : ℕ) → j < length_of m - r
+    → o < r
     → cell m (1 - b) R (length_of m - r) j (R (length_of m - r + o)) ≡ short_cell m b r (λ v. R (length_of m - r + v)) o (R j)
 
 -- Req 02: "the lowest power at which the word is not zero", of any binary word and however many powers from a^1 on are looked at. Its

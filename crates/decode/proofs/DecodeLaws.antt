@@ -36,7 +36,8 @@ flipped_false : (b : Bool) → not b ≡ false → b ≡ true
 flipped_false true e = refl
 flipped_false false e = sym e
 
-module _ (m t s order : ℕ) (soft : List ℤ) (before : List ℕ) (N : ℕ) (e : N ≡ decode_refusal m t s order (length soft) (length before)) where
+module _ (m t s order : ℕ) (soft : List ℤ) (before : List ℕ) (N : ℕ) (e : N ≡ decode_refusal m t s order (length soft) (length before))
+    where
   pub decode_refuses : 0 < N → DecodeAnswers m t s order soft before (refusing N) before
   decode_refuses h = refused (λ z. let q : N ≡ 0 = e ∙ z in omega arith) (record { says = ap refusing e; keeps = refl })
 

@@ -11,7 +11,7 @@ use Rattle.codec.proofs.CodecOneAnswer.{encode_one_answer, read_one_answer}
 use Rattle.codec.proofs.encode.Kinds as encode-kinds
 use Rattle.codec.proofs.encode.Reads as encode-reads
 use Rattle.codec.proofs.read.Kinds as read-kinds
-use Rattle.codec.proofs.read.Reads as read_reads
+use Rattle.codec.proofs.read.Reads as read-reads
 use Rattle.decode.specs.Call.{Call, Result}
 use Rattle.decode.proofs.CalledLaws.{answers_as_result}
 use Rattle.decode.proofs.decode.Kinds as decode-kinds
@@ -29,8 +29,8 @@ EncodeIsOurs = (κs : Lfts 1) (a : Dens κs encode-kinds.ps)
 
 abbrev pub ReadIsOurs : Type 0
 ReadIsOurs = (κs : Lfts 1) (a : Dens κs read-kinds.ps)
-    → read_reads.Asked κs a
-    × ((r : (res_t read-kinds.r κs).Denot) (e : AtExit (ended_of 1 read-kinds.ps read-kinds.r) κs) → read_reads.Learnt κs a r e
+    → read-reads.Asked κs a
+    × ((r : (res_t read-kinds.r κs).Denot) (e : AtExit (ended_of 1 read-kinds.ps read-kinds.r) κs) → read-reads.Learnt κs a r e
     → r ≡ ours.read a.0 a.1.0 a.1.1.0 a.1.1.1.0.now)
 
 -- the call that decode's arguments are

@@ -47,7 +47,8 @@ module _ (m t s : ℕ) (bytes : List ℕ) where
   pub root_lowest : ((p : ℕ) → n - s ≤ p → bit_of w p ≡ 0) → (i : ℕ) → 1 ≤ i → i ≤ 2 * t → value_at m (bit_of w) i ≢ 0
       → RootFault m t s w (lowest_of 1 (2 * t) (value_at m (bit_of w)))
   root_lowest z i l h f =
-      ⊎_elim (λ k. absurd (f (k i l (omega arith)))) (λ k. record { clear = z; lowest = k }) (lowest_cases (value_at m (bit_of w)) 1 (2 * t))
+      ⊎_elim (λ k. absurd (f (k i l (omega arith)))) (λ k. record { clear = z; lowest = k })
+          (lowest_cases (value_at m (bit_of w)) 1 (2 * t))
 
   module _ (y : Reading) (e : read_refusal m t s (length bytes) ≡ 0) (a : ReadAnswers m t s bytes y) where
     pub is_taken : Readable m t s w → y ≡ says 0 (w / 2 ^ parity_of m t)

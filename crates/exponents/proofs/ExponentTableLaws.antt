@@ -52,7 +52,8 @@ along_all m good l t k h =
 
 -- a table that passes for k is right in the field where m is k
 pub table_powers_lem : (k : ℕ) (l : List ℕ) → T (table_powers k l) → (m : ℕ) → m ≡ k → Powers m l
-table_powers_lem k l t m e i h = eqb→eq (get_or l i 0) (alpha_to k i) (along_all k (λ x y. eqb y x) l t i h) ∙ ap (λ (u : ℕ). alpha_to u i) (sym e)
+table_powers_lem k l t m e i h = eqb→eq (get_or l i 0) (alpha_to k i) (along_all k (λ x y. eqb y x) l t i h)
+    ∙ ap (λ (u : ℕ). alpha_to u i) (sym e)
 
 pub table_zech_lem : (k : ℕ) (l : List ℕ) → T (table_zech k l) → (m : ℕ) → m ≡ k → Zech m l
 table_zech_lem k l t m e = subst (λ (u : ℕ). Zech u l) (sym e) at

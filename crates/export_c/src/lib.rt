@@ -1,4 +1,5 @@
-// The calls for C hosts under the names that they are linked by; each is export's, and promises the same. include/malligovu.h declares them.
+// The calls for C hosts under the names that they are linked by; each is export's, and promises the same. include/malligovu.h declares
+// them.
 #![tactic(auto)]
 
 ghost use Rattle.codec.specs.Encode.{EncodeAnswers};

@@ -50,7 +50,8 @@ pub round_even : (m i a b acc z : ℕ) → i < m → a % 2 ≢ 1 → acc ⊕ shi
 unfolding bit_times
 round_even m i a b acc z h ne e =
     let d : a % 2 ≡ 0 = omega arith in
-    ap (λ (u : ℕ). acc ⊕ u) (sym (shift_round m i a b h ∙ ap (λ (u : ℕ). bit_times u b ⊕ shift_add m (m - (i + 1)) (a / 2) (times_alpha m b)) d
+    ap (λ (u : ℕ). acc ⊕ u) (sym (shift_round m i a b h ∙ ap (λ (u : ℕ). bit_times u b ⊕ shift_add m (m - (i + 1)) (a / 2)
+        (times_alpha m b)) d
     ∙ zero_xor _)) ∙ e
 
 pub round_odd : (m i a b acc z : ℕ) → i < m → a % 2 ≡ 1 → acc ⊕ shift_add m (m - i) a b ≡ z

@@ -35,7 +35,8 @@ inverts_only m (suc x) y F h t =
     (eqb→eq (times m (suc x) y) 1 (and_right (ltb y (2 ^ m)) product t))
 
 -- a table that passes for k holds the inverses of the field where m is k
-pub table_inverse : (k : ℕ) (t : List ℕ) → T (table_inverts k t) → (m x : ℕ) → m ≡ k → 4 ≤ m → m ≤ 6 → x < 2 ^ m → get_or t x 0 ≡ inverse_of m x
+pub table_inverse : (k : ℕ) (t : List ℕ) → T (table_inverts k t) → (m x : ℕ) → m ≡ k → 4 ≤ m → m ≤ 6 → x < 2 ^ m → get_or t x 0
+    ≡ inverse_of m x
 table_inverse k t passes m x e l h lt =
     let in_table : x < 2 ^ k = in_field k m x e lt in
     inverts_only k x (get_or t x 0) (laws k (omega arith) (omega arith)) in_table

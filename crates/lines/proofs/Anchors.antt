@@ -42,7 +42,8 @@ unfolding header_refusal dimension_of entry_of
 header_refusals = refl
 
 -- an unknown t is refused with 1 and not, as an order, with 3: `4 0 0`, `4 5 0` and `4 257 0`; `4 2 7` with 2
-left_out_refusals : map (λ text. refusal_of (header_of text)) (bytes_in "4 0 0" ∷ bytes_in "4 5 0" ∷ bytes_in "4 257 0" ∷ bytes_in "4 2 7" ∷ [])
+left_out_refusals : map (λ text. refusal_of (header_of text))
+    (bytes_in "4 0 0" ∷ bytes_in "4 5 0" ∷ bytes_in "4 257 0" ∷ bytes_in "4 2 7" ∷ [])
     ≡ 1 ∷ 1 ∷ 1 ∷ 2 ∷ []
 unfolding header_of items is_number number_of header_refusal dimension_of entry_of
 left_out_refusals = refl

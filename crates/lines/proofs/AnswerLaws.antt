@@ -60,7 +60,8 @@ module _ (h : Header) where
   unfolding header_says header_goes_on
   something_ends n = go h.good (eqb (refusal_of h) 0) n
     where
-      go : (good zero : Bool) → (length (cond good (cond zero [] (refused_line (refusal_of h))) header_line) ≡ 0 → ⊥) → (good && zero) ≡ false
+      go : (good zero : Bool) → (length (cond good (cond zero [] (refused_line (refusal_of h))) header_line) ≡ 0 → ⊥) → (good && zero)
+          ≡ false
       go true true n = absurd (n refl)
       go true false n = refl
       go false zero n = refl

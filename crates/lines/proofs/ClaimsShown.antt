@@ -46,7 +46,8 @@ answered_at_once input =
     let all = input ++ newline ∷ [] in
     let ends : end_says (after_block start all) ≡ [] = ap end_says (after_append start input (newline ∷ []))
     ∙ newline_then_end (after_block start input) in
-    sym (append-nil (block_says start all)) ∙ ap (λ (l : List ℕ). block_says start all ++ l) (sym (still_end (after_block start all) ∙ ends))
+    sym (append-nil (block_says start all)) ∙ ap (λ (l : List ℕ). block_says start all ++ l)
+        (sym (still_end (after_block start all) ∙ ends))
     ∙ sym (still_block start all []) ∙ ap (still start) (append-nil all) ∙ still_start all
 
 pub nothing_after_the_end : NothingAfterTheEnd
@@ -68,7 +69,8 @@ nothing_is_guessed blocks more = record {
 }
 
 -- a piece of a line says nothing after lines
-piece_waits : (lines piece : List ℕ) → NoNewline piece → block_says start (lines ++ newline ∷ piece) ≡ program_output (lines ++ newline ∷ [])
+piece_waits : (lines piece : List ℕ) → NoNewline piece → block_says start (lines ++ newline ∷ piece)
+    ≡ program_output (lines ++ newline ∷ [])
 piece_waits lines piece none =
     let ended = lines ++ newline ∷ [] in
     ap (block_says start) (sym (append_assoc lines (newline ∷ []) piece)) ∙ says_append start ended piece

@@ -74,7 +74,8 @@ say_joined : (phase : Phase) (text line : List ℕ) (lines : List (List ℕ))
     (phase_after phase (kept (text ++ line))) lines
 say_joined phase text line lines =
     ap (lines_say phase) (join_line text line lines) ∙ say_line phase (text ++ line) lines
-    ∙ ap₂ (λ (l : List ℕ) (p : Phase). l ++ lines_say p lines) (sym (line_kept phase (text ++ line))) (sym (phase_kept phase (text ++ line)))
+    ∙ ap₂ (λ (l : List ℕ) (p : Phase). l ++ lines_say p lines) (sym (line_kept phase (text ++ line)))
+        (sym (phase_kept phase (text ++ line)))
 
 say_kept : (phase : Phase) (text : List ℕ) (lines : List (List ℕ))
     → lines_say phase (join_first (kept text) lines) ≡ lines_say phase (join_first text lines)

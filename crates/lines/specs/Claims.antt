@@ -39,7 +39,8 @@ pub record BeginningOf (piece whole : List ℕ) : Type 0 where
 
 -- so an end that is not the end of the input leaves only right answers behind
 abbrev pub NothingIsGuessed : Type 0
-NothingIsGuessed = (blocks : List (List ℕ)) (more : List ℕ) → BeginningOf (said_so_far start blocks) (program_output (joined blocks ++ more))
+NothingIsGuessed = (blocks : List (List ℕ)) (more : List ℕ) → BeginningOf (said_so_far start blocks)
+    (program_output (joined blocks ++ more))
 
 -- a piece of a line
 abbrev pub NoNewline : List ℕ → Type 0

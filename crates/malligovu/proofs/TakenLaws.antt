@@ -4,14 +4,13 @@ use mathlib.Core.Bool.{Bool, true, false}
 use mathlib.Core.List.{List, []}
 use Prim.Native.Nat.{ℕ, zero, suc}
 use native.Mathlib.Omega.{arith}
-use lib.ListN.{take}
 use Rattle.lines.specs.Memory.{Memory, after_block, end_says}
 use Rattle.stream.specs.Stepped.{Ready, memory_of}
 use Rattle.stream.specs.declared.State.{State}
 use Rattle.stdio.specs.Outcome.{Within}
 use Rattle.stdio.specs.declared.Outcome.{Outcome}
 use Rattle.stdio.specs.declared.Outcome.TheVariants.{Moved, Later, Failed}
-use Rattle.malligovu.specs.Taken.{Takes, Printed, Took, Answers, Follows, TakesSome, Turns}
+use Rattle.malligovu.specs.Taken.{Takes, Printed, Took, Follows, TakesSome, Turns}
 use Rattle.malligovu.specs.declared.Turn.{Turn}
 
 module _ (s : State) (line : List ℕ) (ready : Ready s line) (block before : List ℕ) where
@@ -36,14 +35,6 @@ module _ (s : State) (line : List ℕ) (ready : Ready s line) (block before : Li
   follows_failed e = rw e (took_nothing false, refl)
 
 module _ (m : Memory) (block before : List ℕ) (r : Turn) (line after : List ℕ) where
-  some_bytes : (n : ℕ) → (n ≡ 0 → ⊥) → Answers m (take n block) before r line after → Follows (Moved n) m block before r line after
-  some_bytes zero some answers = absurd (some refl)
-  some_bytes (suc n) some answers = answers
-
-  pub follows_bytes : {got : Outcome} {n : ℕ} → got ≡ Moved n → (n ≡ 0 → ⊥) → Answers m (take n block) before r line after
-      → Follows got m block before r line after
-  follows_bytes e some answers = rw e (some_bytes _ some answers)
-
   takes_some : (got : Outcome) → Within got block → Follows got m block before r line after → TakesSome m block r.state line
   takes_some (Moved zero) within follows = record { count = 0; within = omega arith; takes = follows.0.takes }
   takes_some (Moved (suc n)) within follows = record { count = suc n; within = within.0; takes = follows.took.takes }

@@ -37,7 +37,8 @@ module _ (R : ℕ → ℕ) (leaf : ℕ → Best → Best) where
       ap (λ (k : ℕ). best_over R leaf k i (suc may) v x) (next i size h)
       ∙ ap (λ (j : ℕ). best_over R leaf (size - (i + 1)) j may (v ⊕ 2 ^ R i) (best_over R leaf (size - (i + 1)) j (suc may) v x))
       (sym (add-one i))
-      ∙ ap (λ (y : ℕ). best_over R leaf (size - (i + 1)) (i + 1) y (v ⊕ 2 ^ R i) (best_over R leaf (size - (i + 1)) (i + 1) (suc may) v x)) e
+      ∙ ap (λ (y : ℕ). best_over R leaf (size - (i + 1)) (i + 1) y (v ⊕ 2 ^ R i)
+          (best_over R leaf (size - (i + 1)) (i + 1) (suc may) v x)) e
 
   -- no more candidates than patterns
   pub search_patterns : ((v : ℕ) (x : Best) → (leaf v x).count ≤ x.count + 1)

@@ -37,7 +37,8 @@ module _ (m b r tau : ℕ) (soft : List ℤ) (R : ℕ → ℕ) where
   abbrev pub EveryCandidateHasOnePattern : Type 0
   EveryCandidateHasOnePattern = Case → (w : ℕ) → Candidate m b r tau soft w
       → (f : ℕ) × Pattern m r tau f × T (binary m b r R (flipped_by m r R soft f)) × (completed m b r R (flipped_by m r R soft f) ≡ w)
-      × ((g : ℕ) → Pattern m r tau g → T (binary m b r R (flipped_by m r R soft g)) → completed m b r R (flipped_by m r R soft g) ≡ w → g ≡ f)
+      × ((g : ℕ) → Pattern m r tau g → T (binary m b r R (flipped_by m r R soft g)) → completed m b r R (flipped_by m r R soft g) ≡ w → g
+          ≡ f)
 
   abbrev pub BinaryPatternsAreCandidates : Type 0
   BinaryPatternsAreCandidates = Case → (f : ℕ) → Pattern m r tau f → T (binary m b r R (flipped_by m r R soft f))

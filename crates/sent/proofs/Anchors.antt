@@ -27,6 +27,7 @@ tied = pos 10 ∷ pos 10 ∷ negsuc 9 ∷ replicate 10 (pos 10) ++ (pos 5 ∷ po
 -- the word 04 60 has two wrong bits there, and its margin is none: both sums are 10, as is the zero word's distance
 pub no_margin : (flips_of 4 tied 0x6004 ≡ 2) × (soft_distance 4 tied 0x6004 ≡ 10) × (smallest 1 (right_reliabilities 4 tied 0x6004) ≡ 10)
     × (soft_distance 4 tied 0 ≡ 10)
-unfolding smallest sorted insert added right_reliabilities values_where differs hard reliability soft_at bit_of length_of soft_distance flips_of
+unfolding smallest sorted insert added right_reliabilities values_where differs hard reliability soft_at bit_of length_of soft_distance
+    flips_of
     total
 no_margin = (refl, refl, refl, refl)

@@ -23,7 +23,8 @@ use Rattle.codec.specs.Called.{encoding_of}
 unfoldable pub computing : ℕ
 unfolding
     last_of total ◌⊕◌ xor_sum bit_times modulus reduction length_of times_alpha shift_add times alpha_to inverse_of ℕ_discrete
-    bit_of word_of entry_of dimension_of parity_of generator_of value_at unless others quotients cell lagrange remainder_by with_parity systematic
+    bit_of word_of entry_of dimension_of parity_of generator_of value_at unless others quotients cell lagrange remainder_by with_parity
+        systematic
     soft_at hard reliability before rank_of reliable differs soft_distance flips_of reliable_flips
     stays better best_over symbol binary completed searched position_at listed positions search_over
     insert sorted added smallest values_where right_reliabilities

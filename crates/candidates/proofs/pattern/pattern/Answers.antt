@@ -14,7 +14,8 @@ use Rattle.candidates.proofs.WeighSteps.{ne_pos}
 use Rattle.candidates.proofs.PatternSteps.{summed_start, summed_turn, summed_low, summed_end, Binary, binary_start}
 use Rattle.candidates.proofs.PatternSteps.{binary_turn, tried_not, tried_is, differing_is, differing_lt}
 use Rattle.candidates.proofs.pattern.pattern.Goals as goal
-use Rattle.candidates.proofs.pattern.pattern.Goals.{Else-g-eq0, Else-q-rows, else-outside-test, then-outside-test+then-g-eq0+then-symbol-gt1}
+use Rattle.candidates.proofs.pattern.pattern.Goals.{Else-g-eq0, Else-q-rows}
+use Rattle.candidates.proofs.pattern.pattern.Goals.{else-outside-test, then-outside-test+then-g-eq0+then-symbol-gt1}
 
 -- in a turn of the inner loop: there is a lowest flip, which is a rank of the reliable set
 some : (c : Else-g-eq0) → 0 < c.loop-g.g

@@ -72,8 +72,9 @@ again-codeword c =
 
 pub returns-then-word-length-gt0 : goal.returns-then-word-length-gt0
 returns-then-word-length-gt0 c =
+    let a = c.args in
     let h = subst (λ (x : ℕ). 0 < x) (above (goal.at.returns-then-word-length-gt0 c).After-length_of-length) c.if-word-length-gt0.true in
-    c.refuse.ensures ∙ sym (fault_pad (m (goal.at.returns-then-word-length-gt0 c).After-length_of-length) (t (goal.at.returns-then-word-length-gt0 c).After-length_of-length) (s (goal.at.returns-then-word-length-gt0 c).After-length_of-length) (word (goal.at.returns-then-word-length-gt0 c).After-length_of-length) (λ l. omega (arith, div-eq_of_lt l)))
+    c.refuse.ensures ∙ sym (fault_pad a.m a.t a.s a.word (λ l. omega (arith, div-eq_of_lt l)))
 
 pub overflow_sub-sent : goal.overflow_sub-sent
 overflow_sub-sent c =
@@ -81,30 +82,39 @@ overflow_sub-sent c =
 
 pub returns-then-word-sent-gt0 : goal.returns-then-word-sent-gt0
 returns-then-word-sent-gt0 c =
+    let a = c.args in
+    let at = goal.at.returns-then-word-sent-gt0 c in
     let l = c.lowest_one in
-    let h = subst (λ (n : ℕ). Lowest (n - s (goal.at.returns-then-word-sent-gt0 c).After-length_of-length) 64 (bit_of (word (goal.at.returns-then-word-sent-gt0 c).After-length_of-length)) l.result) c.length_of-length.ensures.0 l.ensures in
-    c.refuse-then-word-sent-gt0.ensures ∙ sym (fault_unsent (m (goal.at.returns-then-word-sent-gt0 c).After-length_of-length) (t (goal.at.returns-then-word-sent-gt0 c).After-length_of-length) (s (goal.at.returns-then-word-sent-gt0 c).After-length_of-length) (word (goal.at.returns-then-word-sent-gt0 c).After-length_of-length) 64 l.result (short (goal.at.returns-then-word-sent-gt0 c).After-length_of-length) (no-pad (goal.at.returns-then-word-sent-gt0 c).Else-word-length-gt0) h)
+    let h = subst (λ (n : ℕ). Lowest (n - a.s) 64 (bit_of a.word) l.result) c.length_of-length.ensures.0 l.ensures in
+    c.refuse-then-word-sent-gt0.ensures ∙ sym (fault_unsent a.m a.t a.s a.word 64 l.result (short at.After-length_of-length)
+        (no-pad at.Else-word-length-gt0) h)
 
 pub word_of-requires : goal.word_of-requires
-word_of-requires c = (
-  c.requires.0,
-  subst (λ (n : ℕ). word (goal.at.word_of-requires c).After-length_of-length / 2 ^ n < 2 ^ dimension_of (m (goal.at.word_of-requires c).After-length_of-length) (t (goal.at.word_of-requires c).After-length_of-length)) (sym c.parity_bits.ensures.0) (message_small (goal.at.word_of-requires c).Else-word-sent-gt0),
-)
+word_of-requires c =
+    let a = c.args in (
+      c.requires.0,
+      subst (λ (n : ℕ). a.word / 2 ^ n < 2 ^ dimension_of a.m a.t) (sym c.parity_bits.ensures.0)
+          (message_small (goal.at.word_of-requires c).Else-word-sent-gt0),
+    )
 
 pub lowest_power-requires : goal.lowest_power-requires
 unfolding ◌⊕◌
 lowest_power-requires c =
+    let a = c.args in
+    let at = goal.at.lowest_power-requires c in
     let k = c.requires.0 in (
       k.m_low,
       k.m_high,
       k.t_high,
-      xor_lt (length_of (m (goal.at.lowest_power-requires c).After-length_of-length)) (word (goal.at.lowest_power-requires c).After-length_of-length) c.word_of.result (no-pad (goal.at.lowest_power-requires c).Else-word-length-gt0) (again-codeword (goal.at.lowest_power-requires c).After-word_of).bits,
+      xor_lt (length_of a.m) a.word c.word_of.result (no-pad at.Else-word-length-gt0) (again-codeword at.After-word_of).bits,
     )
 
 pub returns : goal.returns
 unfolding ◌⊕◌
 returns c =
+    let a = c.args in
+    let at = goal.at.returns c in
     c.refuse-2.ensures
     ∙ ap (fault_at 10) (c.lowest_power.ensures
-    ∙ power_left (m (goal.at.returns c).After-length_of-length) (t (goal.at.returns c).After-length_of-length) (s (goal.at.returns c).After-length_of-length) (word (goal.at.returns c).After-length_of-length) c.requires.0 c.word_of.result (again-codeword (goal.at.returns c).After-word_of))
-    ∙ sym (fault_root (m (goal.at.returns c).After-length_of-length) (t (goal.at.returns c).After-length_of-length) (s (goal.at.returns c).After-length_of-length) (word (goal.at.returns c).After-length_of-length) (short (goal.at.returns c).After-length_of-length) (no-unsent (goal.at.returns c).Else-word-sent-gt0))
+    ∙ power_left a.m a.t a.s a.word c.requires.0 c.word_of.result (again-codeword at.After-word_of))
+    ∙ sym (fault_root a.m a.t a.s a.word (short at.After-length_of-length) (no-unsent at.Else-word-sent-gt0))
