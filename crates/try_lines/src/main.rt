@@ -14,9 +14,9 @@
 
 mod printed; // what is printed
 mod quoted; // texts in brackets, and the bytes that they spell
-mod cases; // a case and its answer
+mod case; // a case and its answer
 
-use crate::quoted::find;
+use cases::scan::find;
 
 // Standard input.
 const STDIN_FILENO: i32 = 0;
@@ -26,11 +26,11 @@ fn run_line(line: &[u8]) {
     let name = find(line, 0, line.len(), b'|');
     printed::put_text(&line[0..name]);
     if name == line.len() {
-        cases::run(line);
+        case::run(line);
         return;
     }
     let start = name + 1;
-    cases::run(&line[start..]);
+    case::run(&line[start..]);
 }
 
 fn each_line(stored: &[u8]) {

@@ -1,7 +1,7 @@
 // Texts in brackets, and the bytes that they spell.
 ghost use Rattle.std.specs.Prelude.{◌≤◌, ◌<◌, length};
 
-pub use cases::scan::find;
+use cases::scan::find;
 
 // A byte, and the place after what spells it.
 #[derive(Drop)]
