@@ -30,7 +30,7 @@ pub fn encode(m: u16, t: u16, s: u16, message: u64, buf: &mut [u8]) -> u8
 
 // What read answers: 0 and the message, or a refusal's number and message 0. `at` is with 9 the lowest unsent position that holds a 1, with
 // 10 the lowest power at which the word is not zero, and in every other answer 0.
-#[derive(Drop)]
+#[derive(Clone, Copy)]
 pub struct Reading {
     pub refusal: u8,
     pub message: u64,

@@ -8,7 +8,7 @@ ghost use Rattle.decode.specs.Call.{refusing};
 use frame::{NO_CANDIDATE, TAKEN};
 
 // What decode answers: a refusal's number and nothing else, or 0 and what is known of the word in the buffer.
-#[derive(Drop)]
+#[derive(Clone, Copy)]
 pub struct Decoding {
     pub refusal: u8,
     pub distance: u16,

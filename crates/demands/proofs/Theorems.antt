@@ -126,7 +126,7 @@ whole_example = whole.whole_example
 pub order_one_is_wrong : OrderOneIsWrong
 order_one_is_wrong = whole.order_one_is_wrong
 
--- the functions of the C interface meet their contracts
+-- the functions for C hosts, which export_c exports with the same clauses, meet their contracts
 pub c_encode_meets_its_contract : {M : Type 1} → c-encode-stated.statement M
 c_encode_meets_its_contract = c-encode-met.met
 

@@ -20,7 +20,7 @@ struct Draft {
 }
 
 // A word, and the codeword that was sent.
-#[derive(Drop)]
+#[derive(Clone, Copy)]
 pub struct SentWord {
     pub word: [u8; 15],
     pub codeword: u64,

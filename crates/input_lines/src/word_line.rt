@@ -7,7 +7,7 @@ ghost use Rattle.input_lines.specs.Inner.HoldsValue.{holds_value};
 use items::{Item, holds_number, item_at};
 
 // Whether a line is of the right form, and if so how many values it has.
-#[derive(Drop)]
+#[derive(Clone, Copy)]
 pub struct Line {
     pub good: bool,
     pub count: usize,

@@ -15,7 +15,7 @@ pub struct Item {
 }
 
 // A whole item, and the place of the space or the line's end after it.
-#[derive(Drop)]
+#[derive(Clone, Copy)]
 pub struct Found {
     pub item: Item,
     pub end: usize,

@@ -14,7 +14,7 @@ pub enum Phase {
 }
 
 // What is awaited after a line, and how many bytes its answer has.
-#[derive(Drop)]
+#[derive(Clone, Copy)]
 pub struct Answered {
     pub phase: Phase,
     pub wrote: usize,

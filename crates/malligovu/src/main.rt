@@ -17,14 +17,14 @@ use stdio::Outcome;
 use stream::State;
 
 // What is remembered after a read, and whether to read on.
-#[derive(Drop)]
+#[derive(Clone, Copy)]
 struct Turn {
     state: State,
     on: bool,
 }
 
 // What the end of the input adds. Whether it could be written or not, nothing follows.
-fn answer_end(rt: &(impl Clock + Print + Eprint), state: State, line: &[u8], out: &mut [u8])
+fn answer_end(rt: &(impl Clock + Print), state: State, line: &[u8], out: &mut [u8])
     requires ready { Ready state line.now }
     requires value { 262144 ≡ length out.old }
     ensures { Printed (end_says (memory_of state line.now)) out.old out.new }
@@ -45,7 +45,7 @@ fn reads_on(written: bool, state: State) -> bool
 
 // What the bytes of a read answer. Where not all of it could be written, there is no further read.
 fn answer_bytes(
-    rt: &(impl Clock + Print + Eprint),
+    rt: &(impl Clock + Print),
     state: State,
     line: &mut [u8],
     bytes: &[u8],
@@ -67,7 +67,7 @@ fn answer_bytes(
 
 // What follows from a read.
 fn follow(
-    rt: &(impl Clock + Print + Eprint),
+    rt: &(impl Clock + Print),
     state: State,
     line: &mut [u8],
     block: &[u8],
@@ -95,7 +95,7 @@ fn follow(
 
 // One read, and all that follows from it.
 fn take_block(
-    rt: &(impl Clock + Print + Eprint),
+    rt: &(impl Clock + Print),
     input: &mut impl Read,
     state: State,
     line: &mut [u8],
@@ -114,7 +114,7 @@ fn take_block(
 
 // A proved loop has to end, and nothing says that an input does: it counts its reads down, from a number that no run uses up.
 fn run(
-    rt: &(impl Clock + Print + Eprint),
+    rt: &(impl Clock + Print),
     input: &mut impl Read,
     line: &mut [u8],
     block: &mut [u8],
@@ -136,7 +136,7 @@ fn run(
 }
 
 // The memory of a run.
-fn answer_input(rt: &(impl Clock + Print + Eprint), input: &mut impl Read) {
+fn answer_input(rt: &(impl Clock + Print), input: &mut impl Read) {
     let mut line = [0u8; 513];
     let mut block = [0u8; 4096];
     let mut out = [0u8; 262144];
@@ -154,7 +154,7 @@ fn has_argument(rt: &impl Env) -> bool {
 
 fn main(rt: HostRuntime) {
     if has_argument(&rt) {
-        usage::say(&rt);
+        usage::say();
     } else {
         answer_input(&rt, &mut rt.stdin());
     }

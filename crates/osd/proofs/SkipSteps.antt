@@ -43,12 +43,12 @@ module _ (p : Prepared) (parts chains : List ℕ) (tab : Tabled p parts chains) 
     part = q ∙ ap (λ (x : ℕ). x ⊕ F i) m.part ∙ sym (part_after f.ranks i h) ∙ ap (part_of (plan_of p) (told p)) (sym r);
   }
 
-  module _ (flips part : ℕ) (Told-Part : part ≡ part_of (plan_of p) (told p) flips) where
+  module _ (flips part : ℕ) (told_part : part ≡ part_of (plan_of p) (told p) flips) where
     -- a flip that the chains shut leads nowhere
     shut_nowhere : (i : ℕ) → i < p.size → Shut chains (i + 1) (part ⊕ F i) → Nowhere (λ i. i) (tried (plan_of p)) p.size 2 flips i
     shut_nowhere i l shut =
         let z : ℕ = part ⊕ F i in
-        let e : part_of (plan_of p) (told p) flips ⊕ F i ≡ z = ap (λ (x : ℕ). x ⊕ F i) (sym Told-Part) in
+        let e : part_of (plan_of p) (told p) flips ⊕ F i ≡ z = ap (λ (x : ℕ). x ⊕ F i) (sym told_part) in
         two_nowhere (λ i. i) (tried (plan_of p)) p.size (part_of (plan_of p) (told p)) F drops part_after flips i l
         (λ q. shut.some (sym e ∙ q))
         (λ h a b q. last_none parts p.size (slot_of z) h
@@ -60,7 +60,7 @@ module _ (p : Prepared) (parts chains : List ℕ) (tab : Tabled p parts chains) 
     next_nowhere from to zero r n some i a b l = absurd (omega arith)
     next_nowhere from to (suc zero) r n some i a b l =
         last_nowhere (λ i. i) (tried (plan_of p)) p.size (part_of (plan_of p) (told p)) F drops part_after flips i l
-        (λ q. last_none parts to (slot_of part) i (omega (arith, n.one refl)) b (ap slot_of (q ∙ sym Told-Part)))
+        (λ q. last_none parts to (slot_of part) i (omega (arith, n.one refl)) b (ap slot_of (q ∙ sym told_part)))
     next_nowhere from to (suc (suc zero)) r n some i a b l = shut_nowhere i l (n.two refl i a b)
     next_nowhere from to (suc (suc (suc k))) r n some i a b l = absurd (omega (arith, n.more (omega arith)))
 

@@ -5,7 +5,7 @@ ghost use Rattle.prepare.specs.Inner.ByRank.{Inside, Gathers};
 use ranks::Position;
 
 // The reliability of each rank, and the hard decisions, bit i for rank i.
-#[derive(Drop)]
+#[derive(Clone, Copy)]
 pub struct ByRank {
     pub weight: [u8; 63],
     pub bits: u64,

@@ -8,7 +8,7 @@ ghost use Rattle.received.specs.Receives.{Receives};
 ghost use Rattle.received.specs.Inner.Reliabilities.{Reliabilities};
 
 // What was received, by position.
-#[derive(Drop)]
+#[derive(Clone, Copy)]
 pub struct Received {
     // the hard decisions, bit p for position p
     pub hards: u64,

@@ -10,6 +10,9 @@ use std::io::{Error, Read, Write};
 use std::time::{Clock, Duration};
 use std::{str, thread};
 
+// Standard error.
+const STDERR_FILENO: i32 = 2;
+
 // A call was interrupted.
 const EINTR: i32 = 4;
 
@@ -17,7 +20,7 @@ const EINTR: i32 = 4;
 const EAGAIN: i32 = 11;
 
 // What came of a call: it moved so many bytes; or it was interrupted or not ready; or it failed, and standard error says how.
-#[derive(Drop)]
+#[derive(Clone, Copy)]
 pub enum Outcome {
     Moved(usize),
     Later,
@@ -31,7 +34,7 @@ fn wait(rt: &impl Clock) {
 
 // Writes a line to standard error: what failed, as the caller names it, a colon and the system's text for the error, which is std's text
 // without the number after it.
-fn fail(rt: &impl Eprint, name: &str, error: i32) {
+fn fail(name: &[u8], error: i32) {
     let mut text = [0u8; 128];
     let mut room = &mut text[..];
     let _ = write!(room, "{}", Error::from_raw_os_error(error));
@@ -40,18 +43,15 @@ fn fail(rt: &impl Eprint, name: &str, error: i32) {
         Some((before, _)) => before,
         None => words,
     };
-    let _ = eprintln!(rt; "{name}: {said}");
+    io::write_all(STDERR_FILENO, name);
+    io::write_all(STDERR_FILENO, b": ");
+    io::write_all(STDERR_FILENO, said.as_bytes());
+    io::write_all(STDERR_FILENO, b"\n");
 }
 
 // What the system's answer to a call means, by the number of its error where it is no count. A call that was not ready is given time at
 // once, and a failure is said.
-fn outcome_of(
-    rt: &(impl Clock + Eprint),
-    got: isize,
-    error: i32,
-    lent: &[u8],
-    name: &str,
-) -> Outcome
+fn outcome_of(rt: &impl Clock, got: isize, error: i32, lent: &[u8], name: &[u8]) -> Outcome
     ensures { Means got error lent.now result }
 {
     if got >= 0 {
@@ -64,7 +64,7 @@ fn outcome_of(
         wait(rt);
         return Outcome::Later;
     }
-    fail(rt, name, error);
+    fail(name, error);
     Outcome::Failed
 }
 
@@ -80,27 +80,27 @@ fn answer_of(call: Result<usize, Error>) -> (isize, i32)
 }
 
 // One read of standard input. Of a block with room, Moved(0) is the end of the input, and nothing else is.
-pub fn read(rt: &(impl Clock + Eprint), input: &mut impl Read, block: &mut [u8]) -> Outcome
+pub fn read(rt: &impl Clock, input: &mut impl Read, block: &mut [u8]) -> Outcome
     ensures { Within result block.new }
 {
     let (got, error) = answer_of(input.read(block));
-    outcome_of(rt, got, error, block, "malligovu: standard input")
+    outcome_of(rt, got, error, block, b"malligovu: standard input")
 }
 
 // One write to standard output. One that takes no byte is given time, as one that was not ready.
-fn write(rt: &(impl Clock + Print + Eprint), text: &[u8]) -> Outcome
+fn write(rt: &(impl Clock + Print), text: &[u8]) -> Outcome
     ensures { Within result text.now }
 {
     let (put, error) = answer_of(rt.write_some(text));
     if put == 0 {
         wait(rt);
     }
-    outcome_of(rt, put, error, text, "malligovu: standard output")
+    outcome_of(rt, put, error, text, b"malligovu: standard output")
 }
 
 // Writes the text to standard output, in as many calls as it takes, and gives back how many bytes were taken: all, unless a call failed.
 // A proved loop has to end: it counts its calls down, from a number that no run uses up.
-pub fn write_all(rt: &(impl Clock + Print + Eprint), text: &[u8]) -> usize
+pub fn write_all(rt: &(impl Clock + Print), text: &[u8]) -> usize
     ensures { result ≤ length text.now }
 {
     let mut done = 0;

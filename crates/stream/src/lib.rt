@@ -21,7 +21,7 @@ pub struct State {
 }
 
 // What is remembered after a block, and how many bytes of the output are written.
-#[derive(Drop)]
+#[derive(Clone, Copy)]
 pub struct Stepped {
     pub state: State,
     pub wrote: usize,

@@ -4,14 +4,14 @@ ghost use Rattle.std.specs.Prelude.{◌≤◌, ◌<◌, length};
 use cases::scan::find;
 
 // A byte, and the place after what spells it.
-#[derive(Drop)]
+#[derive(Clone, Copy)]
 struct Spelling {
     byte: u8,
     end: usize,
 }
 
 // How many bytes a text has, and where its closing bracket stands; the end of the line where there is none.
-#[derive(Drop)]
+#[derive(Clone, Copy)]
 pub struct Quoted {
     pub count: usize,
     pub end: usize,

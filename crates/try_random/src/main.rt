@@ -22,7 +22,7 @@ mod compare; // a call compared with the exhaustive search
 // with the wrong sum one below the bound and two at it.
 const WORDS: u64 = 400;
 
-#[derive(Drop)]
+#[derive(Clone, Copy)]
 struct Run {
     tally: [u64; 13],
     seed: u64,

@@ -1,4 +1,4 @@
--- `codec::read` meets its contract: laws over named places of the code, then its needs. Assumes nothing.
+-- `codec::read` meets its contract: laws over named places of the code, then its goals. Assumes nothing.
 use mathlib.Core.Path.{◌≡◌, ap, ap₂, sym, subst, ◌∙◌}
 use Prim.Native.Nat.{ℕ, ◌-◌, ◌/◌, ◌^◌, ◌<◌, ◌≤◌}
 use native.Mathlib.Omega.{arith}

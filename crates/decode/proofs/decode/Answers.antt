@@ -1,4 +1,4 @@
--- `decode::decode` meets its contract: laws over named places of the code, then its needs. Assumes nothing.
+-- `decode::decode` meets its contract: laws over named places of the code, then its goals. Assumes nothing.
 use mathlib.Core.Path.{◌≡◌, ap, sym, subst, ◌∙◌}
 use mathlib.Core.Bool.{true, false, not}
 use mathlib.Core.List.{List, ◌++◌}

@@ -1,4 +1,4 @@
--- `codec::fault::fault_of` meets its contract: laws over named places of the code, then its needs. Assumes nothing.
+-- `codec::fault::fault_of` meets its contract: laws over named places of the code, then its goals. Assumes nothing.
 use mathlib.Core.Path.{◌≡◌, sym, ap, subst, ◌∙◌}
 use Prim.Native.Nat.{ℕ, ◌-◌, ◌/◌, ◌^◌, ◌<◌, ◌≤◌}
 use native.Mathlib.Nat.{div-eq_of_lt}
