@@ -51,7 +51,8 @@ module _ (got error : ℤ) (lent : List ℕ) (fits : SFits w64 got) where
   counts e n-is =
       means (count_if got error (length lent) (rw (to_z-of_z w64 got fits) at e) ∙ ap Moved (sym (rw (to_z-of_z w64 got fits) at n-is)))
 
-  pub later : (n : ℕ) → not_negative ≡ false → SFits w32 error → of_z w32 error ≡ n → passes (to_z w32 n) ≡ true → Means got error lent Later
+  pub later : (n : ℕ) → not_negative ≡ false → SFits w32 error → of_z w32 error ≡ n → passes (to_z w32 n) ≡ true
+      → Means got error lent Later
   later n negative fits-error e known =
       let number : error ≡ to_z w32 n = sym (to_z-of_z w32 error fits-error) ∙ ap (to_z w32) e in
       means (fails negative ∙ ap (λ (b : Bool). cond b Later Failed) (ap passes number ∙ known))
