@@ -25,7 +25,7 @@
    at once. They need memcpy and memset of the C library and nothing else. Encode and read take some 100 and 240 bytes of stack and,
    at m = 6 and t = 3, 400 and 490 instructions; read of a word that it refuses with 10, and malligovu_fault of it, 390 bytes and up
    to some 3,300 instructions. What they take is measured, not proved: here and below with an older kit, rattle-kit-5b, before the
-   port to rattle-kit-13f, and not again since. */
+   port to rattle-kit-13f. */
 #ifndef MALLIGOVU_H
 #define MALLIGOVU_H
 
