@@ -8,8 +8,7 @@ use native.Mathlib.Numerals.{add-one}
 use native.Mathlib.Omega.{arith}
 use lib.Dec.{ltb, ltb→lt, lt→ltb}
 use lib.Pow.{pow_mono, shl_lt, shl_exact}
-use lib.Count.{count_trailing_zeros}
-use lib.Bits.{bit_and, and_le_l}
+use lib.Bits.{and_le_l}
 use Rattle.field.specs.Field.{◌⊕◌}
 use Rattle.field.proofs.TestLaws.{below, all_of, is_true, is_false}
 use Rattle.field.proofs.XorLaws.{xor_zero, xor_lt}
@@ -18,6 +17,7 @@ use Rattle.search.specs.Plan.{Plan, Fits}
 use Rattle.search.specs.ByRank.{xor_bits, rank_symbol, rank_binary, outside, differing, rank_weighed, seen_if, tried}
 use Rattle.search.proofs.BitSumLaws.{xor_none}
 use Rattle.search.proofs.RankBits.{outside_lt}
+use Rattle.prepare.specs.Ones.{Took}
 use Rattle.search.proofs.LowestBit.{turn_low, turn_xor}
 use Rattle.candidates.proofs.WeighSteps.{xor_both}
 
@@ -34,16 +34,17 @@ module _ (p : Plan) (fits : Fits p) (f q symbol g : ℕ) (l : Summed p f q symbo
   wide : p.size ≤ 64
   wide = omega (arith, fits.sizes)
 
-  pub summed_low : 0 < g → count_trailing_zeros 64 g < 61
-  summed_low some = omega (arith, turn_low 64 p.size g some l.low wide, fits.sizes)
+  module _ (j h : ℕ) (t : Took g j h) where
+    pub summed_low : j < 61
+    summed_low = omega (arith, t.lowest, turn_low 64 p.size g t.some l.low wide, fits.sizes)
 
-  pub summed_turn : 0 < g → Summed p f q (symbol ⊕ p.column q (count_trailing_zeros 64 g)) (bit_and g (g - 1))
-  summed_turn some = record {
-    low = omega (arith, l.low, and_le_l g (g - 1));
-    sum =
-        ap (λ (x : ℕ). symbol ⊕ p.column q (count_trailing_zeros 64 g) ⊕ x) (turn_xor 64 p.size g some l.low wide (p.column q))
-        ∙ xor_both symbol (xor_bits (p.column q) p.size g) (p.column q (count_trailing_zeros 64 g)) ∙ l.sum;
-  }
+    pub summed_turn : Summed p f q (symbol ⊕ p.column q j) h
+    summed_turn = record {
+      low = omega (arith, l.low, t.left, and_le_l g (g - 1));
+      sum =
+          ap (λ (x : ℕ). symbol ⊕ p.column q j ⊕ x) (rw (t.left, t.lowest) (turn_xor 64 p.size g t.some l.low wide (p.column q)))
+          ∙ xor_both symbol (xor_bits (p.column q) p.size g) (p.column q j) ∙ l.sum;
+    }
 
   pub summed_end : g ≡ 0 → symbol ≡ rank_symbol p f q
   summed_end e =

@@ -11,14 +11,11 @@ pub struct Candidate {
     pub flips: u8,
 }
 
-// The best candidate so far, if one is found, and how many were seen. The widest come first, so that there is no gap to copy.
+// The nearest candidate so far, and how many were seen.
 #[derive(Clone, Copy)]
 pub struct Best {
-    pub word: u64,
+    pub nearest: Option<Candidate>,
     pub count: u32,
-    pub distance: u16,
-    pub flips: u8,
-    pub found: bool,
 }
 
 impl Best {
@@ -27,10 +24,7 @@ impl Best {
         ensures { as_best result ≡ none }
     {
         Best {
-            found: false,
-            word: 0,
-            distance: 0,
-            flips: 0,
+            nearest: None,
             count: 0,
         }
     }
@@ -39,13 +33,11 @@ impl Best {
     fn stays(self, c: Candidate) -> bool
         ensures { result ≡ stays (as_best self) (as_weighed c) }
     {
-        if self.found {
-            if self.distance == c.distance {
-                return self.word < c.word;
-            }
-            return self.distance < c.distance;
+        match self.nearest {
+            Some(best) if best.distance == c.distance => best.word < c.word,
+            Some(best) => best.distance < c.distance,
+            None => false,
         }
-        false
     }
 
     // The best with one more candidate seen.
@@ -55,44 +47,32 @@ impl Best {
     {
         let count = self.count + 1;
         if self.stays(c) {
-            return Best {
-                found: true,
-                word: self.word,
-                distance: self.distance,
-                flips: self.flips,
-                count,
-            };
+            return Best { count, ..self };
         }
         Best {
-            found: true,
-            word: c.word,
-            distance: c.distance,
-            flips: c.flips,
+            nearest: Some(c),
             count,
         }
     }
 
     // Whether a candidate is found that is nearer than this distance. Only a yes is promised: a no costs time, and no answer.
     pub fn nearer(self, distance: u16) -> bool
-        ensures { result ≡ true → (self.found ≡ true) × (self.distance < distance) }
+        ensures { result ≡ true → ((as_best self).found ≡ true) × ((as_best self).distance < distance) }
     {
-        if self.found {
-            return self.distance < distance;
+        match self.nearest {
+            Some(best) => best.distance < distance,
+            None => false,
         }
-        false
     }
 
     // The best with one more candidate seen, a farther one: it counts, and that is all.
     pub fn counting(self) -> Best
-        requires { (self.found ≡ true) × (self.count < most_counted) }
-        ensures { (c : Weighed) → self.distance < c.distance → as_best result ≡ better (as_best self) c }
+        requires { ((as_best self).found ≡ true) × (self.count < most_counted) }
+        ensures { (c : Weighed) → (as_best self).distance < c.distance → as_best result ≡ better (as_best self) c }
     {
         Best {
-            found: true,
-            word: self.word,
-            distance: self.distance,
-            flips: self.flips,
             count: self.count + 1,
+            ..self
         }
     }
 }

@@ -1,44 +1,55 @@
 // What is printed: a line, with what its call answers in the place of its question marks.
-use crate::scan::{count_of, find};
-use std::num::wrapping_sub_usize;
+ghost use Rattle.std.specs.Prelude.{◌≤◌, length};
+
+// Standard input.
+const STDIN_FILENO: i32 = 0;
 
 // Standard output.
 const STDOUT_FILENO: i32 = 1;
+
+// How many bytes the buffer has whose first bytes a call is lent.
+pub const SPACE: usize = 4096;
+
+// The stored cases: what stands on standard input, as far as the lent bytes hold it.
+pub fn read_stored(space: &mut [u8]) -> &[u8]
+    ensures { length result.now ≤ length space.old }
+{
+    let count = io::read_full(STDIN_FILENO, space);
+    &space[..count]
+}
 
 pub fn put_text(text: &[u8]) {
     io::write_all(STDOUT_FILENO, text);
 }
 
-fn put_byte(byte: u8) {
+pub fn put_number(number: u64) {
+    io::print_decimal(STDOUT_FILENO, number);
+}
+
+// A byte, as two digits.
+pub fn put_byte(byte: u8) {
     io::print_hex(STDOUT_FILENO, byte as u64, 2);
 }
 
 // The k-th of what a call answers: its numbers, the first eleven bytes of the buffer, and how many of the other bytes are not ff.
-fn put_answer(numbers: &[u64], space: &[u8; 4096], k: usize) {
-    if k < numbers.len() {
-        io::print_decimal(STDOUT_FILENO, numbers[k]);
+fn put_answer(numbers: &[u64], space: &[u8; SPACE], k: usize) {
+    if let Some(&number) = numbers.get(k) {
+        put_number(number);
         return;
     }
-    let at = k - numbers.len();
-    if at < 11 {
-        put_byte(space[at]);
-        return;
+    let (listed, others) = space.split_at(11);
+    match listed.get(k - numbers.len()) {
+        Some(&byte) => put_byte(byte),
+        None => put_number(others.iter().filter(|&&b| b != 255).count() as u64),
     }
-    let changed = wrapping_sub_usize(4085, count_of(255, space, 11));
-    io::print_decimal(STDOUT_FILENO, changed as u64);
 }
 
-pub fn put_line(line: &[u8], numbers: &[u64], space: &[u8; 4096]) {
-    let mut from = 0;
-    let mut k = 0;
-    while from < line.len() {
-        let mark = find(line, from, line.len(), b'?');
-        put_text(&line[from..mark]);
-        if mark == line.len() {
-            return;
+// The texts of a line, and an answer in the place of each question mark between them.
+pub fn put_line(line: &[u8], numbers: &[u64], space: &[u8; SPACE]) {
+    for (k, text) in line.split(|&b| b == b'?').enumerate() {
+        if 0 < k {
+            put_answer(numbers, space, k - 1);
         }
-        put_answer(numbers, space, k);
-        k += 1;
-        from = mark + 1;
+        put_text(text);
     }
 }

@@ -1,17 +1,24 @@
--- The functions of specs/Called keep the contracts of encode and read, and read's contract permits nothing else. Assumes nothing.
+-- The functions of specs/Called keep the contracts of encode and read, and read's contract permits nothing else; and what read's checks
+-- come to there. Assumes nothing.
 use mathlib.Core.Path.{◌≡◌, refl, sym, ap, ◌∙◌}
 use mathlib.Core.List.{List}
-use Prim.Native.Nat.{ℕ, zero, suc}
+use Prim.Native.Nat.{ℕ, zero, suc, ◌<◌}
 use native.Mathlib.Omega.{arith}
 use lib.ListN.{length}
+use Rattle.std.specs.Prelude.{Result, Ok, Err, IsErrAnd}
 use Rattle.codes.specs.Generator.{systematic}
 use Rattle.words.specs.Packing.{word_in}
+use Rattle.frame.specs.declared.refusal.Refusal.{Refusal}
+use Rattle.frame.specs.Numbers.{number}
 use Rattle.frame.specs.Refusal.{encode_refusal, read_refusal}
 use Rattle.codec.specs.Encode.{EncodeAnswers}
 use Rattle.codec.specs.Read.{ReadAnswers}
 use Rattle.codec.specs.GivenBack.{says}
 use Rattle.codec.specs.Called.{encoding_after, encoding_of, reading_after, reading_of}
 use Rattle.codec.specs.declared.Reading.{Reading}
+use Rattle.codec.specs.declared.fault.Fault.{Fault}
+use Rattle.codec.specs.declared.fault.Fault.TheVariants.{Refused}
+use Rattle.codec.specs.Faulty.{faulty, answer_of}
 use Rattle.codec.proofs.EncodeLaws.{encode_refuses, encode_writes}
 use Rattle.codec.proofs.ReadLaws.{passed, word_wide, word_answers_lem, read_refuses}
 use Rattle.codec.proofs.ReadLaws.{reading_taken, reading_pad, reading_unsent, reading_root}
@@ -36,9 +43,14 @@ module _ (m t s : ℕ) (bytes : List ℕ) where
       go (suc N) e = read_refuses m t s bytes (suc N) e (omega arith)
 
   -- a call whose checks gave N
-  checked : (N : ℕ) → read_refusal m t s (length bytes) ≡ N → reading_of m t s bytes ≡ reading_after N m t s (word_in m bytes)
+  pub checked : (N : ℕ) → read_refusal m t s (length bytes) ≡ N → reading_of m t s bytes ≡ reading_after N m t s (word_in m bytes)
   unfolding reading_of
   checked N e = ap (λ (x : ℕ). reading_after x m t s (word_in m bytes)) e
+
+  -- a call that they refuse
+  pub checks_refused : (N : ℕ) → 0 < N → read_refusal m t s (length bytes) ≡ N → reading_of m t s bytes ≡ says N 0
+  checks_refused zero h e = absurd (omega arith)
+  checks_refused (suc N) h e = checked (suc N) e
 
   pub answers_as_reading : (y : Reading) → ReadAnswers m t s bytes y → y ≡ reading_of m t s bytes
   answers_as_reading y (ReadAnswers.refused n h) = go (read_refusal m t s (length bytes)) refl
@@ -57,4 +69,9 @@ module _ (m t s : ℕ) (bytes : List ℕ) where
       h ∙ sym (checked 0 e ∙ reading_root m t s (word_in m bytes) p.known p.short (word_wide m t s bytes e) at u)
   answers_as_reading y (ReadAnswers.taken e u h) =
       let p = passed m t s bytes e in
-      h ∙ sym (checked 0 e ∙ reading_taken m t s (word_in m bytes) p.known p.short (word_wide m t s bytes e) u)
+      h ∙ sym (checked 0 e ∙ reading_taken m t s (word_in m bytes) p.known p.short u)
+
+-- a refusal of the checks that `?` passes on is answered by its number
+pub passed_on : (r : Result ℕ Fault) (e : Refusal) → IsErrAnd r (λ f. f ≡ Refused e) → answer_of r ≡ says (number e) 0
+passed_on (Ok M) e h = absurd h
+passed_on (Err f) e h = ap faulty h

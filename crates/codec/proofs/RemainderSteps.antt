@@ -2,14 +2,16 @@
 --   smaller_there, smaller_not   the sum with a word whose top place is n is smaller where a coefficient is there, else it is not
 --   Dividing                     what holds at each turn: nothing is left from the place d + i up, and the remainder is the same
 --   dividing                     it holds at the start
---   taken_off, let_be            and after a turn more, whether the generator is taken off or not
+--   divided_on                   and after a turn more, whether the generator is taken off or not
 --   divided                      at the end what is left is the remainder
 -- Assumes nothing.
-use mathlib.Core.Path.{◌≡◌, refl, sym, ap, ◌∙◌}
+use mathlib.Core.Path.{◌≡◌, refl, sym, ap, subst, ◌∙◌}
 use mathlib.Core.Logic.{◌⊎◌, inl, inr, ⊎_elim}
-use Prim.Native.Nat.{ℕ, zero, suc, ◌+◌, ◌-◌, ◌*◌, ◌/◌, ◌%◌, ◌^◌, ◌<◌, ◌≤◌}
-use native.Mathlib.Nat.{pow-suc, mul_assoc, mul-div_cancel, mul-div-mul_right, div-lt_iff_lt-mul, le-div_iff_mul-le}
+use Prim.Native.Nat.{ℕ, zero, suc, min, ◌+◌, ◌*◌, ◌/◌, ◌%◌, ◌^◌, ◌<◌, ◌≤◌}
+use native.Mathlib.Nat.{pow-suc, mul_assoc, mul-div_cancel, mul-div-mul_right}
+use native.Mathlib.Nat.{div-lt_iff_lt-mul, le-div_iff_mul-le, min-eq_left, min-eq_right}
 use native.Mathlib.Omega.{arith}
+use Rattle.std.proofs.lemmas.Bool.{cases_lt}
 use lib.Bits as B
 use lib.Pow.{pow-add, pow_pos, shl_exact}
 use Rattle.field.specs.Field.{◌⊕◌, bit_times}
@@ -79,17 +81,10 @@ module _ (d g : ℕ) where
         same = refl;
       }
 
-      module _ (i left moved : ℕ) (before : Dividing i left moved) (some : 0 < i) where
-        abbrev j : ℕ
-        j = i - 1
-
-        next : i ≡ suc j
-        next = omega arith
-
+      module _ (j left moved : ℕ) (before : Dividing (suc j) left moved) where
         moved_down : moved / 2 ≡ g * 2 ^ j
         moved_down =
-            ap (λ (x : ℕ). x / 2) (before.generator ∙ ap (λ (x : ℕ). g * 2 ^ x) next ∙ ap (λ (x : ℕ). g * x) (pow-suc 2 j)
-            ∙ sym (mul_assoc g (2 ^ j) 2))
+            ap (λ (x : ℕ). x / 2) (before.generator ∙ ap (λ (x : ℕ). g * x) (pow-suc 2 j) ∙ sym (mul_assoc g (2 ^ j) 2))
             ∙ mul-div_cancel (g * 2 ^ j) (omega arith)
 
         -- the generator's highest coefficient is at the place d + j
@@ -100,34 +95,29 @@ module _ (d g : ℕ) where
 
         left_small : left < 2 * 2 ^ (d + j)
         left_small =
-            let e : d + i ≡ suc (d + j) = omega arith in
+            let e : d + suc j ≡ suc (d + j) = omega arith in
             omega (arith, before.small, ap (λ (x : ℕ). 2 ^ x) e, pow-suc 2 (d + j))
 
-        same_by : (x : ℕ) → remainder_by d g (suc j) left ≡ remainder_by d g j x → remainder_by d g j x ≡ remainder_by d g k c
-        same_by x e = sym e ∙ ap (λ (n : ℕ). remainder_by d g n left) (sym next) ∙ before.same
+        turned : (x : ℕ) → x < 2 ^ (d + j) → remainder_by d g (suc j) left ≡ remainder_by d g j x → Dividing j x (moved / 2)
+        turned x small e =
+            record { at = omega (arith, before.at); small = small; generator = moved_down; same = sym e ∙ before.same }
 
-        pub taken_off : left ⊕ moved / 2 < left → Dividing j (left ⊕ moved / 2) (moved / 2)
+        taken_off : left ⊕ moved / 2 < left → Dividing j (left ⊕ moved / 2) (moved / 2)
         taken_off h =
             let t = smaller_there (d + j) left (moved / 2) left_small moved_one h in
-            record {
-              at = omega (arith, before.at);
-              small = t.1;
-              generator = moved_down;
-              same =
-                  same_by (left ⊕ moved / 2) (remainder_there j left t.0
-                  ∙ ap (λ (x : ℕ). remainder_by d g j (left ⊕ x)) (sym moved_down));
-            }
+            turned (left ⊕ moved / 2) t.1
+            (remainder_there j left t.0 ∙ ap (λ (x : ℕ). remainder_by d g j (left ⊕ x)) (sym moved_down))
 
-        pub let_be : left ≤ left ⊕ moved / 2 → Dividing j left (moved / 2)
+        let_be : left ≤ left ⊕ moved / 2 → Dividing j left (moved / 2)
         let_be h =
             let t = smaller_not (d + j) left (moved / 2) left_small moved_one h in
-            record {
-              at = omega (arith, before.at);
-              small = t.1;
-              generator = moved_down;
-              same = same_by left (remainder_not j left t.0);
-            }
+            turned left t.1 (remainder_not j left t.0)
 
-    pub divided : (i left moved : ℕ) → Dividing i left moved → i ≤ 0 → left ≡ remainder_by d g k c
+        pub divided_on : Dividing j (min left (left ⊕ moved / 2)) (moved / 2)
+        divided_on =
+            ⊎_elim (λ h. subst (λ (x : ℕ). Dividing j x (moved / 2)) (sym (min-eq_right (omega arith))) (taken_off h))
+            (λ h. subst (λ (x : ℕ). Dividing j x (moved / 2)) (sym (min-eq_left h)) (let_be h)) (cases_lt (left ⊕ moved / 2) left)
+
+    pub divided : (left moved : ℕ) → Dividing 0 left moved → left ≡ remainder_by d g k c
     unfolding remainder_by
-    divided i left moved end l = let e : i ≡ 0 = omega arith in sym (ap (λ (x : ℕ). remainder_by d g x left) e) ∙ end.same
+    divided left moved end = end.same

@@ -1,36 +1,45 @@
-// A word that read does not accept: the first of its checks that fails, and where (Req 02).
-ghost use Rattle.std.specs.Prelude.{◌≡◌, ◌/◌, ◌^◌, ◌≤◌, ◌<◌};
-ghost use Rattle.field.specs.Lowest.{Lowest};
-ghost use Rattle.codes.specs.Code.{Known, dimension_of};
-ghost use Rattle.codes.specs.Codeword.{bit_of};
-ghost use Rattle.codec.specs.Called.{fault_of};
+// Why read gives no message, and where.
+ghost use Rattle.std.specs.Prelude.{◌≡◌};
 
-use crate::parity::{parity_bits, word_of};
-use crate::{Reading, refuse};
-use frame::{MISSING_ROOT, PAD_BIT, UNSENT_BIT};
+use crate::Reading;
+use frame::refusal::Refusal;
 
-// The lowest position from `from` on that holds a 1.
-fn lowest_one(word: u64, from: usize) -> u8
-    requires { (from ≤ 63) × (0 < word / 2 ^ from) }
-    ensures { Lowest from 64 (bit_of word) result }
-{
-    (from + u64::trailing_zeros(word >> from) as usize) as u8
+// A refusal without a place, or one of the two that have one.
+#[derive(Clone, Copy, PartialEq, Eq)]
+pub enum Fault {
+    // of what the call was given, or of the pad bit
+    Refused(Refusal),
+    // 9, at the lowest unsent position that holds a 1
+    Unsent(u8),
+    // 10, at the lowest power at which the word is not zero
+    Root(u8),
 }
 
-// The pad bit, then the unsent bits, then the roots. What is left of the word when the codeword with its message is taken off has the
-// word's values at the code's roots, and fewer bits.
-pub fn fault_of(m: u16, t: u16, s: u16, word: u64) -> Reading
-    requires { Known m t × (s < dimension_of m t) }
-    ensures { result ≡ fault_of m t s word }
-{
-    let length = words::length_of(m);
-    if 0 < word >> length {
-        return refuse(PAD_BIT, 0);
+impl From<Refusal> for Fault {
+    ghost use Rattle.codec.specs.declared.fault.Fault.TheVariants.{Refused};
+
+    ghost from_gives = { λ r f. f ≡ Refused r };
+
+    fn from(refusal: Refusal) -> Fault {
+        Fault::Refused(refusal)
     }
-    let sent = length - s as usize;
-    if 0 < word >> sent {
-        return refuse(UNSENT_BIT, lowest_one(word, sent));
+}
+
+impl From<Fault> for Reading {
+    ghost use Rattle.codec.specs.Faulty.{faulty};
+
+    ghost from_gives = { λ f r. r ≡ faulty f };
+
+    fn from(fault: Fault) -> Reading {
+        let (refusal, at) = match fault {
+            Fault::Refused(refusal) => (refusal, 0),
+            Fault::Unsent(at) => (Refusal::UnsentBit, at),
+            Fault::Root(at) => (Refusal::MissingRoot, at),
+        };
+        Reading {
+            refusal: refusal.number(),
+            message: 0,
+            at,
+        }
     }
-    let left = word ^ word_of(m, t, word >> parity_bits(m, t));
-    refuse(MISSING_ROOT, roots::lowest_power(m as u8, t as u8, left))
 }

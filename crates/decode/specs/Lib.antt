@@ -1,3 +1,4 @@
 pub mod Call
 pub mod Decode
 pub mod Called
+pub mod Outcome

@@ -2,74 +2,91 @@
 // every power.
 #![tactic(auto)]
 
-ghost use Rattle.std.specs.Prelude.{◌≤◌, ◌<◌};
+ghost use Rattle.std.specs.Prelude.{◌≤◌};
 
-use exhaustive::reader::{Told, read};
-use tally::{count, put, put_text};
+use exhaustive::reader::{Fault, read};
+use std::fmt;
+use tally::count;
 
-// Words that read was given; those on which it differs; then those that are taken, and those refused with 8, with 9, and with 10 at 1, 3
-// and 5.
-const WORDS: usize = 0;
-
-const DIFFER: usize = 1;
-
-// All of read's answer.
-pub fn same_reading(reading: codec::Reading, told: Told) -> bool {
-    let refusals = reading.refusal as u64 ^ told.refusal;
-    let messages = reading.message ^ told.message;
-    let places = reading.at as u64 ^ told.at;
-    refusals | messages | places == 0
+// Words that read was given; those on which it differs; then those that are taken, and those refused for the pad bit, for an unsent bit,
+// and at the powers 1, 3 and 5.
+#[derive(Clone, Copy, Default)]
+pub struct Reads {
+    words: u64,
+    differ: u64,
+    taken: u64,
+    pad: u64,
+    unsent: u64,
+    root_1: u64,
+    root_3: u64,
+    root_5: u64,
 }
 
-fn place_of(refusal: u64, at: u64) -> usize
-    ensures { result < 13 }
-{
-    match refusal {
-        0 => 2,
-        8 => 3,
-        9 => 4,
-        _ => 5 + (at / 2 % 3) as usize,
+// All of read's answer: a refusal's number, with its place or 0, and message 0. The numbers are read's answer to C hosts, written here once
+// more.
+pub fn same_reading(reading: codec::Reading, told: Result<u64, Fault>) -> bool {
+    let (refusal, message, at) = match told {
+        Ok(message) => (0, message, 0),
+        Err(Fault::Pad) => (8, 0, 0),
+        Err(Fault::Unsent(position)) => (9, 0, position),
+        Err(Fault::Root(power)) => (10, 0, power),
+    };
+    (reading.refusal, reading.message, usize::from(reading.at)) == (refusal, message, at)
+}
+
+impl Reads {
+    // With one more word.
+    fn count_word(&mut self, t: u16, s: u16, w: u16)
+        requires { s ≤ 15 }
+    {
+        let told = read(u64::from(w), t, s);
+        let reading = codec::read(4, t, s, &w.to_le_bytes());
+        count(&mut self.words, true);
+        count(&mut self.differ, !same_reading(reading, told));
+        let place = match told {
+            Ok(_) => &mut self.taken,
+            Err(Fault::Pad) => &mut self.pad,
+            Err(Fault::Unsent(_)) => &mut self.unsent,
+            Err(Fault::Root(1)) => &mut self.root_1,
+            Err(Fault::Root(3)) => &mut self.root_3,
+            Err(Fault::Root(_)) => &mut self.root_5,
+        };
+        count(place, true);
     }
-}
 
-fn read_case(counts: [u64; 13], t: u16, s: u16, w: u64) -> [u64; 13]
-    requires { s ≤ 15 }
-{
-    let bytes = [(w % 256) as u8, (w / 256 % 256) as u8];
-    let reading = codec::read(4, t, s, &bytes);
-    let told = read(w, t, s);
-    let words = count(counts, WORDS, true);
-    let differ = count(words, DIFFER, !same_reading(reading, told));
-    count(differ, place_of(told.refusal, told.at), true)
-}
-
-fn each_read(start: [u64; 13], t: u16, s: u16) -> [u64; 13]
-    requires { s ≤ 15 }
-{
-    let mut counts = start;
-    let mut w = 0;
-    while w < 65536 {
-        let next = read_case(counts, t, s, w);
-        counts = next;
-        w += 1;
+    fn count_every_word(&mut self, t: u16, s: u16)
+        requires { s ≤ 15 }
+    {
+        for w in 0..=u16::MAX {
+            self.count_word(t, s, w);
+        }
     }
-    counts
 }
 
 // At three shortenings of a code, which has k message bits: none, 3, and all but one of them.
-pub fn read_every_word(t: u16, k: u16)
+pub fn read_every_word(t: u16, k: u16) -> Reads
     requires { (1 ≤ k) × (k ≤ 15) }
 {
-    let none = each_read([0; 13], t, 0);
-    let three = each_read(none, t, 3);
-    let counts = each_read(three, t, k - 1);
-    put(b"  read: words ", counts[WORDS]);
-    put(b", differ ", counts[DIFFER]);
-    put(b" (taken ", counts[2]);
-    put(b", pad bit ", counts[3]);
-    put(b", unsent bit ", counts[4]);
-    put(b", root 1 ", counts[5]);
-    put(b", 3 ", counts[6]);
-    put(b", 5 ", counts[7]);
-    put_text(b")\n");
+    let mut reads = Reads::default();
+    for s in [0, 3, k - 1] {
+        reads.count_every_word(t, s);
+    }
+    reads
+}
+
+impl fmt::Display for Reads {
+    fn fmt<W: fmt::Write>(&self, f: &mut fmt::Formatter<W>) -> fmt::Result {
+        write!(
+            f,
+            "  read: words {}, differ {} (taken {}, pad bit {}, unsent bit {}, root 1 {}, 3 {}, 5 {})",
+            self.words,
+            self.differ,
+            self.taken,
+            self.pad,
+            self.unsent,
+            self.root_1,
+            self.root_3,
+            self.root_5
+        )
+    }
 }

@@ -2,6 +2,7 @@
 // nothing of the decoder's or the reader's: for try_random, which compares.
 #![tactic(auto)]
 
+pub mod setting; // a code, a shortening and an order
 pub mod received; // received words
 pub mod roots; // the codewords by their roots
 pub mod candidates; // the search over all codewords

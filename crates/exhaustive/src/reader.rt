@@ -3,12 +3,15 @@ ghost use Rattle.std.specs.Prelude.{◌≤◌, ◌<◌};
 
 use crate::roots::{lowest_power, powers};
 
-// Read's answer.
-#[derive(Clone, Copy)]
-pub struct Told {
-    pub refusal: u64,
-    pub message: u64,
-    pub at: u64,
+// Why read refuses a word.
+#[derive(Clone, Copy, PartialEq, Eq)]
+pub enum Fault {
+    // the pad bit is 1
+    Pad,
+    // the lowest unsent position that holds a 1
+    Unsent(usize),
+    // the lowest power at which the word is not zero
+    Root(usize),
 }
 
 // The number of parity bits.
@@ -22,45 +25,25 @@ fn parity_of(t: u16) -> u16
     }
 }
 
-// The lowest of the s highest positions that holds a 1; 15 where none does.
-fn lowest_unsent(w: u64, s: u16) -> u64
+// The lowest of the s highest positions that holds a 1.
+fn lowest_unsent(w: u64, s: u16) -> Option<usize>
     requires { s ≤ 15 }
 {
-    let mut p = 15 - s as u64;
-    while p < 15 {
-        if (w >> p) % 2 == 1 {
-            return p;
-        }
-        p += 1;
-    }
-    p
+    (15 - usize::from(s)..15).find(|p| (w >> *p) % 2 == 1)
 }
 
-fn refused(refusal: u64, at: u64) -> Told {
-    Told {
-        refusal,
-        message: 0,
-        at,
-    }
-}
-
-pub fn read(w: u64, t: u16, s: u16) -> Told
+// What read answers: the message of a word, or the first check that fails.
+pub fn read(w: u64, t: u16, s: u16) -> Result<u64, Fault>
     requires { s ≤ 15 }
 {
-    let position = lowest_unsent(w, s);
-    let power = lowest_power(&powers(), w, t);
     if (w >> 15) % 2 == 1 {
-        return refused(8, 0);
+        return Err(Fault::Pad);
     }
-    if position < 15 {
-        return refused(9, position);
+    if let Some(position) = lowest_unsent(w, s) {
+        return Err(Fault::Unsent(position));
     }
-    if 0 < power {
-        return refused(10, power as u64);
+    if let Some(power) = lowest_power(&powers(), w, t) {
+        return Err(Fault::Root(power));
     }
-    Told {
-        refusal: 0,
-        message: w >> parity_of(t),
-        at: 0,
-    }
+    Ok(w >> parity_of(t))
 }

@@ -1,23 +1,21 @@
--- What a host is told, as the code writes it: nothing on a refusal, else a store at each place. Assumes nothing.
-use mathlib.Core.Path.{◌≡◌, refl}
-use mathlib.Core.List.{List, [], ◌∷◌}
-use Prim.Native.Nat.{ℕ, zero, suc, ◌<◌, ◌≤◌}
+-- What a host is told, as the code copies it: as many numbers as there is room for, and what was past them. Assumes nothing.
+use mathlib.Core.Path.{◌≡◌, refl, ap}
+use mathlib.Core.List.{List, [], ◌∷◌, ◌++◌}
+use Prim.Native.Nat.{ℕ, zero, suc, ◌≤◌, min}
 use native.Mathlib.Omega.{arith}
-use lib.ListN.{set}
-use Rattle.export.specs.Told.{told}
+use lib.ListN.{length, take, drop}
+use Rattle.export.specs.Told.{placed, told}
 
-pub told_nothing : (N : ℕ) (numbers before : List ℕ) → 0 < N → before ≡ told N numbers before
-told_nothing zero numbers before h = absurd (omega arith)
-told_nothing (suc N) numbers before h = refl
+module _ {A : Type 0} where
+  placed_copied : (numbers before : List A) (n : ℕ) → n ≡ min (length numbers) (length before)
+      → take n numbers ++ drop n before ≡ placed numbers before
+  placed_copied [] before n e = let z : n ≡ 0 = omega arith in rw z
+  placed_copied (x ∷ xs) [] n e = let z : n ≡ 0 = omega arith in rw z
+  placed_copied (x ∷ xs) (y ∷ ys) n e =
+      let z : n ≡ suc (min (length xs) (length ys)) = omega arith in
+      rw z (ap (λ (r : List A). x ∷ r) (placed_copied xs ys (min (length xs) (length ys)) refl))
 
-pub told_one : (N a : ℕ) (before : List ℕ) → N ≤ 0 → set before 0 a ≡ told N (a ∷ []) before
-told_one zero a [] h = refl
-told_one zero a (x ∷ more) h = refl
-told_one (suc N) a before h = absurd (omega arith)
-
-pub told_three : (N a b c : ℕ) (before : List ℕ) → N ≤ 0 → set (set (set before 0 a) 1 b) 2 c ≡ told N (a ∷ b ∷ c ∷ []) before
-told_three zero a b c [] h = refl
-told_three zero a b c (x ∷ []) h = refl
-told_three zero a b c (x ∷ y ∷ []) h = refl
-told_three zero a b c (x ∷ y ∷ z ∷ more) h = refl
-told_three (suc N) a b c before h = absurd (omega arith)
+  pub told_copied : (N : ℕ) (numbers before : List A) (n : ℕ) → N ≤ 0 → n ≡ min (length numbers) (length before)
+      → take n numbers ++ drop n before ≡ told N numbers before
+  told_copied zero numbers before n h e = placed_copied numbers before n e
+  told_copied (suc N) numbers before n h e = absurd (omega arith)

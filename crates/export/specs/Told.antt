@@ -12,13 +12,13 @@ use Rattle.decode.specs.Decode.{DecodeAnswers}
 use Rattle.decode.specs.declared.Decoding.{Decoding}
 
 -- in their order; what is past them is unchanged
-abbrev pub placed : List ℕ → List ℕ → List ℕ
+abbrev pub placed : {A : Type 0} → List A → List A → List A
 placed [] before = before
 placed (number ∷ others) [] = []
 placed (number ∷ others) (place ∷ places) = number ∷ placed others places
 
 -- a refusal writes nothing
-abbrev pub told : ℕ → List ℕ → List ℕ → List ℕ
+abbrev pub told : {A : Type 0} → ℕ → List A → List A → List A
 told zero numbers before = placed numbers before
 told (suc N) numbers before = before
 

@@ -2,65 +2,35 @@
 // own that writes nothing. export_c exports them.
 #![tactic(auto)]
 
-ghost use Rattle.std.specs.Prelude.{◌≡◌, [], ◌∷◌, set};
+ghost use Rattle.std.specs.Prelude.{◌≡◌};
 ghost use Rattle.codec.specs.Encode.{EncodeAnswers};
 ghost use Rattle.codec.specs.Read.{ReadAnswers};
 ghost use Rattle.export.specs.Told.{told, DecodeTold, ReadTold, FaultTold};
 ghost use Rattle.export.specs.Inner.Narrow.{Narrows};
 
-use frame::TAKEN;
-
-// The largest number that the calls take.
-const LARGEST: u32 = 65535;
-
 // A host's number for the calls. One that is too large stands as the largest, which every check refuses as it does the number.
 fn narrow(x: u32) -> u16
     ensures { Narrows x result }
 {
-    if LARGEST < x {
-        return LARGEST as u16;
-    }
-    x as u16
+    u16::try_from(x).unwrap_or(u16::MAX)
 }
 
-// Writes a number into a place of the figures, where there is that place.
-fn put(number: u32, place: usize, figures: &mut [u32])
-    ensures { figures.new ≡ set figures.old place number }
+// Writes the numbers over the first places of the lent memory, as many as there is room for; on a refusal none.
+fn tell<T: Copy>(refusal: u8, numbers: &[T], memory: &mut [T])
+    ensures { memory.new ≡ told refusal numbers.now memory.old }
 {
-    if place < figures.len() {
-        figures[place] = number;
-    }
-}
-
-// Writes distance, flips and candidates, as many as there is room for; on a refusal none.
-fn tell_figures(refusal: u8, distance: u16, flips: u8, candidates: u32, figures: &mut [u32])
-    ensures { figures.new ≡ told refusal (distance ∷ flips ∷ candidates ∷ []) figures.old }
-{
-    if TAKEN < refusal {
+    if 0 < refusal {
         return;
     }
-    put(distance as u32, 0, figures);
-    put(flips as u32, 1, figures);
-    put(candidates, 2, figures);
-}
-
-// Writes the message into the first place, where there is one; on a refusal nothing.
-fn tell_message(refusal: u8, number: u64, message: &mut [u64])
-    ensures { message.new ≡ told refusal (number ∷ []) message.old }
-{
-    if TAKEN < refusal {
-        return;
-    }
-    if 0 < message.len() {
-        message[0] = number;
-    }
+    let count = numbers.len().min(memory.len());
+    memory[..count].copy_from_slice(&numbers[..count]);
 }
 
 // Encodes a message into the word.
 pub fn malligovu_encode(m: u32, t: u32, s: u32, message: u64, word: &mut [u8]) -> u32
     ensures { EncodeAnswers m t s message word.old result word.new }
 {
-    codec::encode(narrow(m), narrow(t), narrow(s), message, word) as u32
+    u32::from(codec::encode(narrow(m), narrow(t), narrow(s), message, word))
 }
 
 // Read's answer, for a host's numbers.
@@ -75,8 +45,8 @@ pub fn malligovu_read(m: u32, t: u32, s: u32, word: &[u8], message: &mut [u64]) 
     ensures { ReadTold m t s word.now message.old result message.new }
 {
     let reading = reading_of(m, t, s, word);
-    tell_message(reading.refusal, reading.message, message);
-    reading.refusal as u32
+    tell(reading.refusal, &[reading.message], message);
+    u32::from(reading.refusal)
 }
 
 // Tells where read finds its fault, for the same arguments: with 9 the position, with 10 the power, and else 0.
@@ -84,7 +54,7 @@ pub fn malligovu_fault(m: u32, t: u32, s: u32, word: &[u8]) -> u32
     ensures { FaultTold m t s word.now result }
 {
     let reading = reading_of(m, t, s, word);
-    reading.at as u32
+    u32::from(reading.at)
 }
 
 // Decodes the soft values into the word, and tells of it in the figures.
@@ -101,12 +71,12 @@ pub fn malligovu_decode(
         word.new figures.new }
 {
     let decoding = decode::decode(narrow(m), narrow(t), narrow(s), narrow(order), soft, word);
-    tell_figures(
+    let distance = u32::from(decoding.distance);
+    let flips = u32::from(decoding.flips);
+    tell(
         decoding.refusal,
-        decoding.distance,
-        decoding.flips,
-        decoding.candidates,
+        &[distance, flips, decoding.candidates],
         figures,
     );
-    decoding.refusal as u32
+    u32::from(decoding.refusal)
 }

@@ -1,10 +1,10 @@
 -- A list of checks in two parts: the second part counts where the first gives 0.
+--   passed_on                                `?` passes on the number of the error that it found
 --   numbered checks                          no check of the list has the number 0
---   first_given, code_given, header_given    the first part's number, where it is not 0, is the whole list's
+--   first_given, code_given, header_given    the number of a refusal of the first part is the whole list's
 --   first_passed, code_clear, header_clear   the second part's, where the first gives 0
---   first_both                               either, as the code's `first` picks it
 -- Assumes nothing.
-use mathlib.Core.Path.{◌≡◌, refl, sym, ◌∙◌}
+use mathlib.Core.Path.{◌≡◌, refl, sym, ap, ◌∙◌}
 use mathlib.Core.Bool.{Bool, true, false, cond, ◌&&◌}
 use mathlib.Core.List.{List, [], ◌∷◌, ◌++◌}
 use Prim.Native.Nat.{ℕ, ◌<◌}
@@ -12,7 +12,30 @@ use native.Mathlib.Omega.{arith}
 use borrow.Author.Tests.{ne_eqb}
 use lib.Dec.{T, ltb, ltb→lt, eqb}
 use Rattle.field.proofs.TestLaws.{and_left, and_right}
+use Rattle.std.specs.Prelude.{Result, Ok, Err, IsErrAnd}
+use Rattle.frame.specs.declared.refusal.Refusal.{Refusal}
+use Rattle.frame.specs.declared.refusal.Refusal.TheVariants.{UnknownCode, TooShort, HighOrder, WrongCount, SmallBuffer}
+use Rattle.frame.specs.declared.refusal.Refusal.TheVariants.{NoCandidate, LargeMessage, PadBit, UnsentBit, MissingRoot}
+use Rattle.frame.specs.Numbers.{number, number_of}
 use Rattle.frame.specs.Refusal.{Check, unknown_code, too_short, high_order, first_met, code_refusal, header_refusal}
+
+-- an error that `?` passes on keeps its number
+pub passed_on : {T : Type 0} (r : Result T Refusal) (e : Refusal) → IsErrAnd r (λ d. d ≡ e) → number_of r ≡ number e
+passed_on (Ok x) e h = absurd h
+passed_on (Err d) e h = ap number h
+
+-- no refusal has the number 0
+pub number_above : (r : Refusal) → 0 < number r
+number_above UnknownCode = omega arith
+number_above TooShort = omega arith
+number_above HighOrder = omega arith
+number_above WrongCount = omega arith
+number_above SmallBuffer = omega arith
+number_above NoCandidate = omega arith
+number_above LargeMessage = omega arith
+number_above PadBit = omega arith
+number_above UnsentBit = omega arith
+number_above MissingRoot = omega arith
 
 abbrev pub numbered : List Check → Bool
 numbered [] = true
@@ -29,22 +52,20 @@ module _ (ys : List Check) where
       go true k l e = let h = ltb→lt 0 k l in simp (ne_eqb k 0 (λ z. omega arith))
       go false k l e = e
 
-  -- the number a of the first part and the number b of the second
-  pub first_both : (xs : List Check) → T (numbered xs) → {a b r : ℕ} → a ≡ first_met xs → b ≡ first_met ys → r ≡ cond (eqb a 0) b a
-      → r ≡ first_met (xs ++ ys)
-  first_both xs n p q e = e ∙ rw (p, q) (sym (first_append xs n))
-
-  pub first_given : (xs : List Check) → T (numbered xs) → {a : ℕ} → a ≡ first_met xs → 0 < a → a ≡ first_met (xs ++ ys)
-  first_given xs n {a} p l = first_both xs n p refl (simp (ne_eqb a 0 (λ e. omega arith)))
+  pub first_given : (xs : List Check) → T (numbered xs) → (e : Refusal) → number e ≡ first_met xs → number e ≡ first_met (xs ++ ys)
+  first_given xs n e p =
+      let h = number_above e in
+      let t : eqb (number e) 0 ≡ false = ne_eqb (number e) 0 (λ z. omega arith) in
+      sym (first_append xs n ∙ rw (← p, t))
 
   pub first_passed : (xs : List Check) → T (numbered xs) → {r : ℕ} → first_met xs ≡ 0 → r ≡ first_met ys → r ≡ first_met (xs ++ ys)
-  first_passed xs n p e = first_both xs n (sym p) e refl
+  first_passed xs n p e = e ∙ sym (first_append xs n ∙ rw p)
 
 -- a call's checks, whatever follows the two with which every call begins
 module _ (m t s : ℕ) (later : List Check) where
-  pub code_given : {a : ℕ} → a ≡ code_refusal m t s → 0 < a → a ≡ first_met (unknown_code m t ∷ too_short m t s ∷ later)
+  pub code_given : (e : Refusal) → number e ≡ code_refusal m t s → number e ≡ first_met (unknown_code m t ∷ too_short m t s ∷ later)
   unfolding code_refusal
-  code_given p l = first_given later (unknown_code m t ∷ too_short m t s ∷ []) tt p l
+  code_given e p = first_given later (unknown_code m t ∷ too_short m t s ∷ []) tt e p
 
   pub code_clear : {r : ℕ} → code_refusal m t s ≡ 0 → r ≡ first_met later → r ≡ first_met (unknown_code m t ∷ too_short m t s ∷ later)
   unfolding code_refusal
@@ -52,10 +73,10 @@ module _ (m t s : ℕ) (later : List Check) where
 
 -- and whatever follows the three that a header decides
 module _ (m t s order : ℕ) (later : List Check) where
-  pub header_given : {a : ℕ} → a ≡ header_refusal m t s order → 0 < a
-      → a ≡ first_met (unknown_code m t ∷ too_short m t s ∷ high_order order ∷ later)
+  pub header_given : (e : Refusal) → number e ≡ header_refusal m t s order
+      → number e ≡ first_met (unknown_code m t ∷ too_short m t s ∷ high_order order ∷ later)
   unfolding header_refusal
-  header_given p l = first_given later (unknown_code m t ∷ too_short m t s ∷ high_order order ∷ []) tt p l
+  header_given e p = first_given later (unknown_code m t ∷ too_short m t s ∷ high_order order ∷ []) tt e p
 
   pub header_clear : {r : ℕ} → header_refusal m t s order ≡ 0 → r ≡ first_met later
       → r ≡ first_met (unknown_code m t ∷ too_short m t s ∷ high_order order ∷ later)

@@ -1,6 +1,6 @@
 -- What a call has passed when its checks give 0.
 --   EncodePassed, ReadPassed, DecodePassed   what the passed checks of each call leave
---   code_passed, encode_passed, ..           that they leave it
+--   encode_known, encode_passed, ..          that they leave it
 -- Assumes nothing.
 use mathlib.Core.Path.{◌≡◌}
 use mathlib.Core.Bool.{Bool, true, false, not, cond, ◌&&◌}
@@ -12,7 +12,7 @@ use Rattle.field.proofs.TestLaws.{and_left, and_right}
 use Rattle.codes.specs.Code.{Known, dimension_of}
 use Rattle.words.specs.Packing.{bytes_of}
 use Rattle.frame.specs.Refusal.{unknown_code, too_short, high_order, wrong_count, small_buffer, large_message}
-use Rattle.frame.specs.Refusal.{code_refusal, header_refusal, encode_refusal, read_refusal, decode_refusal}
+use Rattle.frame.specs.Refusal.{encode_refusal, read_refusal, decode_refusal}
 
 -- a check that is not met leaves it to the next
 pub not_met : (b : Bool) (N x : ℕ) → cond b (suc N) x ≡ 0 → T (not b) × (x ≡ 0)
@@ -63,14 +63,6 @@ module _ (m t s : ℕ) where
   -- what the rows after the first two ask, where those are passed
   later : (x : ℕ) → cond (unknown_code m t).0 1 (cond (too_short m t s).0 2 x) ≡ 0 → x ≡ 0
   later x e = (not_met (too_short m t s).0 1 x (not_met (unknown_code m t).0 0 _ e).1).1
-
-  pub code_passed : code_refusal m t s ≡ 0 → Known m t × (s < dimension_of m t)
-  unfolding code_refusal
-  code_passed e = (known_by m t _ e, short_by 0 (not_met (unknown_code m t).0 0 _ e).1)
-
-  pub header_passed : (order : ℕ) → header_refusal m t s order ≡ 0 → Known m t × (s < dimension_of m t)
-  unfolding header_refusal
-  header_passed order e = (known_by m t _ e, short_by _ (not_met (unknown_code m t).0 0 _ e).1)
 
   pub encode_known : (message room : ℕ) → encode_refusal m t s message room ≡ 0 → Known m t
   unfolding encode_refusal

@@ -1,15 +1,13 @@
 -- Which number each call gives, and when: by the checks that are passed and the first that is met. Assumes nothing.
 use mathlib.Core.Path.{◌≡◌, refl, ◌∙◌}
-use mathlib.Core.Logic.{◌≢◌}
 use mathlib.Core.Bool.{Bool, true, false, cond, ◌&&◌}
 use Prim.Native.Nat.{ℕ, ◌-◌, ◌^◌, ◌<◌, ◌≤◌}
 use native.Mathlib.Omega.{arith}
 use lib.Dec.{T, T_not, leb, leb→le, le→leb, ltb→lt, lt→ltb}
-use Rattle.field.specs.Field.{length_of}
-use Rattle.field.proofs.TestLaws.{and_both, ne→not, not_eqb, dec_t}
+use Rattle.field.proofs.TestLaws.{and_both, dec_t}
 use Rattle.codes.specs.Code.{Known, dimension_of}
 use Rattle.words.specs.Packing.{bytes_of}
-use Rattle.frame.specs.Refusal.{unknown_code, too_short, high_order, wrong_count, small_buffer, large_message, encode_refusal, read_refusal}
+use Rattle.frame.specs.Refusal.{unknown_code, too_short, high_order, small_buffer, large_message, encode_refusal, read_refusal}
 use Rattle.frame.proofs.RefusalLaws.{known_by}
 
 -- a check that is met gives its number, one that is not leaves it to the next
@@ -45,26 +43,11 @@ module _ (m t : ℕ) where
     pub past_2 : (x : ℕ) → s < dimension_of m t → cond (too_short m t s).0 2 x ≡ x
     past_2 x h = unmet (too_short m t s).0 2 x (λ u. omega (arith, leb→le (dimension_of m t) s u))
 
-    pub at_7 : (message x : ℕ) → 2 ^ (dimension_of m t - s) ≤ message → cond (large_message m t s message).0 7 x ≡ 7
-    at_7 message x h = met (large_message m t s message).0 7 x (le→leb (2 ^ (dimension_of m t - s)) message h)
-
     pub past_7 : (message x : ℕ) → message < 2 ^ (dimension_of m t - s) → cond (large_message m t s message).0 7 x ≡ x
     past_7 message x h = unmet (large_message m t s message).0 7 x (λ u. omega (arith, leb→le (2 ^ (dimension_of m t - s)) message u))
 
 pub at_3 : (order x : ℕ) → 3 < order → cond (high_order order).0 3 x ≡ 3
 at_3 order x h = met (high_order order).0 3 x (lt→ltb 3 order h)
-
-pub past_3 : (order x : ℕ) → order ≤ 3 → cond (high_order order).0 3 x ≡ x
-past_3 order x h = unmet (high_order order).0 3 x (λ u. omega (arith, ltb→lt 3 order u))
-
-pub at_4 : (m s values x : ℕ) → values ≢ length_of m - s → cond (wrong_count m s values).0 4 x ≡ 4
-at_4 m s values x h = met (wrong_count m s values).0 4 x (ne→not values (length_of m - s) h)
-
-pub past_4 : (m s values x : ℕ) → values ≡ length_of m - s → cond (wrong_count m s values).0 4 x ≡ x
-past_4 m s values x h = unmet (wrong_count m s values).0 4 x (λ u. not_eqb values (length_of m - s) u h)
-
-pub at_5 : (m room x : ℕ) → room < bytes_of m → cond (small_buffer m room).0 5 x ≡ 5
-at_5 m room x h = met (small_buffer m room).0 5 x (lt→ltb room (bytes_of m) h)
 
 pub past_5 : (m room x : ℕ) → bytes_of m ≤ room → cond (small_buffer m room).0 5 x ≡ x
 past_5 m room x h = unmet (small_buffer m room).0 5 x (λ u. omega (arith, ltb→lt room (bytes_of m) u))

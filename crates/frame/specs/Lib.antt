@@ -1,1 +1,2 @@
 pub mod Refusal
+pub mod Numbers

@@ -1,9 +1,7 @@
 // What each call refuses before it looks at a word, and the refusals' numbers.
 #![tactic(auto)]
 
-pub mod refusal; // the numbers, and the first check that is met, in each call's order
+pub mod checks; // the first check that is met, in each call's order
+pub mod refusal; // the refusals and their numbers
 
-pub use refusal::{
-    MISSING_ROOT, NO_CANDIDATE, PAD_BIT, TAKEN, UNSENT_BIT, decode_refusal, encode_refusal,
-    header_refusal, read_refusal,
-};
+pub use checks::{decode_checks, encode_checks, header_checks, read_checks, shortened_code};

@@ -23,7 +23,7 @@ abbrev pub table_inverts : ℕ → List ℕ → Bool
 table_inverts m t = all (2 ^ m) (λ x. inverts m x (get_or t x 0))
 
 -- an element is one of the table's places
-pub in_field : (k m x : ℕ) → m ≡ k → x < 2 ^ m → x < 2 ^ k
+in_field : (k m x : ℕ) → m ≡ k → x < 2 ^ m → x < 2 ^ k
 in_field k m x e = subst (λ (u : ℕ). x < 2 ^ u) e
 
 -- what passes at an element is its inverse

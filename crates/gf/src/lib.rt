@@ -7,82 +7,94 @@ mod tables; // the inverses
 ghost use Rattle.std.specs.Prelude.{◌≡◌, ◌^◌, ◌<◌, ◌≤◌};
 ghost use Rattle.field.specs.Field.{times, times_alpha, alpha_to, inverse_of, reduction};
 
-// how many elements there are
-fn size(m: u8) -> u8
-    requires { (4 ≤ m) × (m ≤ 6) }
-    ensures { (result ≡ 2 ^ m) × (result ≤ 64) }
-{
-    if m == 4 {
-        16
-    } else if m == 5 {
-        32
-    } else {
-        64
+// One of the three fields, by its m.
+#[derive(Clone, Copy, PartialEq, Eq)]
+pub struct Field {
+    pub m: u8,
+    ghost known: { (4 ≤ m) × (m ≤ 6) },
+}
+
+impl Field {
+    // the field of 2^m elements
+    pub fn new(m: u8) -> Field
+        requires { (4 ≤ m) × (m ≤ 6) }
+        ensures { result.m ≡ m }
+    {
+        Field { m }
     }
-}
 
-// what a^m is: the polynomial that products are reduced by, below its highest power
-fn reduced(m: u8) -> u8
-    requires { (4 ≤ m) × (m ≤ 6) }
-    ensures { result ≡ reduction m }
-{
-    if m == 5 { 0b101 } else { 0b11 }
-}
+    // how many elements there are
+    fn size(self) -> u8
+        ensures { (result ≡ 2 ^ self.m) × (result ≤ 64) }
+    {
+        1 << self.m
+    }
 
-// a times y
-pub fn double(m: u8, y: u8) -> u8
-    requires { (4 ≤ m) × (m ≤ 6) × (y < 2 ^ m) }
-    ensures { result ≡ times_alpha m y }
-{
-    let q = size(m);
-    let d = y * 2;
-    if d < q { d } else { (d - q) ^ reduced(m) }
-}
+    // what a^m is: the polynomial that products are reduced by, below its highest power
+    fn reduced(self) -> u8
+        ensures { result ≡ reduction self.m }
+    {
+        if self.m == 5 { 0b101 } else { 0b11 }
+    }
 
-// the product: the sum of a^i y over the coefficients i of x that are 1
-pub fn times(m: u8, x: u8, y: u8) -> u8
-    requires { (4 ≤ m) × (m ≤ 6) × (x < 2 ^ m) × (y < 2 ^ m) }
-    ensures { result ≡ times m x y }
-{
-    let mut sum: u8 = 0;
-    let mut rest = x;
-    let mut shifted = y;
-    let mut i = 0;
-    while i < m {
-        if rest % 2 == 1 {
-            sum = sum ^ shifted;
+    // a times y
+    pub fn double(self, y: u8) -> u8
+        requires { y < 2 ^ self.m }
+        ensures { result ≡ times_alpha self.m y }
+    {
+        let q = self.size();
+        let d = y * 2;
+        if d < q { d } else { (d - q) ^ self.reduced() }
+    }
+
+    // the product: the sum of a^i y over the coefficients i of x that are 1
+    pub fn times(self, x: u8, y: u8) -> u8
+        requires { (x < 2 ^ self.m) × (y < 2 ^ self.m) }
+        ensures { result ≡ times self.m x y }
+    {
+        let mut sum: u8 = 0;
+        let mut rest = x;
+        let mut shifted = y;
+        for _ in 0..self.m {
+            if rest % 2 == 1 {
+                sum ^= shifted;
+            }
+            rest /= 2;
+            shifted = self.double(shifted);
         }
-        rest = rest / 2;
-        shifted = double(m, shifted);
-        i += 1;
+        sum
     }
-    sum
+
+    // the inverse, 0 for 0; a table for each field, since each has a number of elements of its own
+    pub fn inverse(self, x: u8) -> u8
+        requires { x < 2 ^ self.m }
+        ensures { result ≡ inverse_of self.m x }
+    {
+        match self.m {
+            4 => tables::INVERSES_4[x as usize],
+            5 => tables::INVERSES_5[x as usize],
+            _ => tables::INVERSES_6[x as usize],
+        }
+    }
+
+    // a^i times y; the power itself where y is 1
+    pub fn alpha_times(self, i: u8, y: u8) -> u8
+        requires { y < 2 ^ self.m }
+        ensures { result ≡ times self.m (alpha_to self.m i) y }
+    {
+        let mut moved = y;
+        for _ in 0..i {
+            moved = self.double(moved);
+        }
+        moved
+    }
 }
 
-// the inverse, 0 for 0
+// The inverse in the field of 2^m elements, 0 for 0. A function beside the method, since the theorem inverse_meets_its_contract speaks of
+// it, by m.
 pub fn inverse(m: u8, x: u8) -> u8
     requires { (4 ≤ m) × (m ≤ 6) × (x < 2 ^ m) }
     ensures { result ≡ inverse_of m x }
 {
-    if m == 4 {
-        tables::INVERSES_4[x as usize]
-    } else if m == 5 {
-        tables::INVERSES_5[x as usize]
-    } else {
-        tables::INVERSES_6[x as usize]
-    }
-}
-
-// a^i times y; the power itself where y is 1
-pub fn alpha_times(m: u8, i: u8, y: u8) -> u8
-    requires { (4 ≤ m) × (m ≤ 6) × (y < 2 ^ m) }
-    ensures { result ≡ times m (alpha_to m i) y }
-{
-    let mut moved = y;
-    let mut k: u8 = 0;
-    while k < i {
-        moved = double(m, moved);
-        k += 1;
-    }
-    moved
+    Field::new(m).inverse(x)
 }

@@ -1,151 +1,132 @@
--- Reading the header, as the loop takes it.
---   ReadNumbers   the loop's invariant: the first `count` of the four numbers are those of the items read
---   numbers_begin, numbers_more   before the first item, an item more
---   end_after, end_within   an item ends at its start or after it, and within the text
---   too_long, numbers_wrong, numbers_many, numbers_few   where the header is wrong
---   numbers_three, numbers_four   three numbers are the header whose order is the second of them, four the one whose order is the fourth
+-- Reading the header number by number, from an iterator over the items of its line.
+--   too_long     a line too long
+--   Left         these numbers were read, and the iterator yields the items that are left
+--   left_begin, left_more       before the first number, a number more
+--   left_wrong, left_none       an item that is no number, no item more: which header the line is
+--   one, two, three   after so many numbers
+--   numbers_three, fifth, numbers_four   three numbers and no item more, four and an item more, four and none
+--   ended        an iterator that has ended yields nothing more
 -- Assumes nothing.
-use mathlib.Core.Path.{◌≡◌, refl, sym, ap, subst, ◌∙◌}
-use mathlib.Core.Bool.{Bool, true, false, cond, not, ◌&&◌, and-false}
+use mathlib.Core.Path.{◌≡◌, refl, sym, ap}
+use mathlib.Core.Bool.{Bool, true, false, cond, ◌&&◌, and-false, true≢false}
 use mathlib.Core.List.{List, [], ◌∷◌, ◌++◌, map}
-use Prim.Native.Nat.{ℕ, ◌+◌, ◌≤◌, ◌<◌}
-use native.Mathlib.Numerals.{add-one}
-use native.Mathlib.Omega.{arith}
+use Prim.Native.Nat.{ℕ, ◌≤◌, ◌<◌}
 use borrow.Author.Tests.{le-leb, lt-leb}
-use lib.Dec.{T, leb}
-use lib.ListN.{length, get_or, take, drop, set, length-set}
-use lib.Seq.{length-take-le, take-suc-set}
+use lib.Dec.{leb}
+use lib.ListN.{length}
+use denote.Param.Members.{Mut}
+use denote.Ref.{Bor}
+use Rattle.std.specs.Prelude.{Option, Some, None, is_some}
+use Rattle.std.specs.Slice.Iter.{split_steps}
+use Rattle.std.proofs.lemmas.Iterator.{YieldsList}
 use Rattle.items.specs.Line.{line_fits, items, is_number, number_of, every}
-use Rattle.input_lines.specs.Header.{wrong_header, header_with, header_in, header_of}
-use Rattle.items.specs.Scan.{holds_number, first_item, found_at}
-use Rattle.items.specs.declared.Found.{Found}
-use Rattle.input_lines.proofs.ItemsLaws.{items_from, items_next}
-use Rattle.input_lines.proofs.ItemTells.{plain_is, plain_number, number_full}
-use Rattle.input_lines.proofs.ReadSteps.{Reading, item_within, reading_begin, reading_more, reading_wrong, reading_end, reading_all}
+use Rattle.input_lines.specs.Header.{header_with, header_in, header_of}
+use Rattle.input_lines.proofs.ReadSteps.{Reading, reading_begin, reading_more, reading_wrong, reading_end, reading_all}
+use Rattle.input_lines.proofs.ReadSteps.{refused, taken}
 
-pub record ReadNumbers (text numbers : List ℕ) (count at : ℕ) : Type 0 where
-  pub size : length numbers ≡ 4
-  pub fits : count ≤ 4
-  pub reading : Reading is_number number_of text (take count numbers) at
-
--- a header has three or four numbers
-few : (l : List ℕ) → length l < 3 → header_in l ≡ wrong_header
-few [] h = refl
-few (a ∷ []) h = refl
-few (a ∷ b ∷ []) h = refl
-few (a ∷ b ∷ c ∷ l) h = absurd (omega arith)
-
-many : (l : List ℕ) (x : ℕ) (xs : List ℕ) → length l ≡ 4 → header_in (l ++ (x ∷ xs)) ≡ wrong_header
-many [] x xs h = absurd (omega arith)
-many (a ∷ []) x xs h = absurd (omega arith)
-many (a ∷ b ∷ []) x xs h = absurd (omega arith)
-many (a ∷ b ∷ c ∷ []) x xs h = absurd (omega arith)
-many (a ∷ b ∷ c ∷ d ∷ []) x xs h = refl
-many (a ∷ b ∷ c ∷ d ∷ e ∷ l) x xs h = absurd (omega arith)
-
-three : (l : List ℕ) → length l ≡ 4 → header_in (take 3 l) ≡ header_with (get_or l 0 0) (get_or l 1 0) (get_or l 2 0) (get_or l 1 0)
-three [] h = absurd (omega arith)
-three (a ∷ []) h = absurd (omega arith)
-three (a ∷ b ∷ []) h = absurd (omega arith)
-three (a ∷ b ∷ c ∷ l) h = refl
-
-four : (l : List ℕ) → length l ≡ 4 → header_in (take 4 l) ≡ header_with (get_or l 0 0) (get_or l 1 0) (get_or l 2 0) (get_or l 3 0)
-four [] h = absurd (omega arith)
-four (a ∷ []) h = absurd (omega arith)
-four (a ∷ b ∷ []) h = absurd (omega arith)
-four (a ∷ b ∷ c ∷ []) h = absurd (omega arith)
-four (a ∷ b ∷ c ∷ d ∷ l) h = refl
-
--- the header of a text, by what is known of its items
-not_fit : (text : List ℕ) → (line_fits text && every is_number (items text)) ≡ false → header_of text ≡ wrong_header
+not_fit : (text : List ℕ) → (line_fits text && every is_number (items text)) ≡ false → header_of text ≡ None
 unfolding header_of
 not_fit text e = rw e
 
-not_header : (text : List ℕ) → header_in (map number_of (items text)) ≡ wrong_header → header_of text ≡ wrong_header
-unfolding header_of
-not_header text e = go (line_fits text && every is_number (items text))
-  where
-    go : (t : Bool) → cond t (header_in (map number_of (items text))) wrong_header ≡ wrong_header
-    go true = e
-    go false = refl
-
-pub too_long : (text : List ℕ) → 512 < length text → header_of text ≡ wrong_header
+pub too_long : (text : List ℕ) → 512 < length text → header_of text ≡ None
 too_long text h = not_fit text (rw (lt-leb (length text) 512 h))
 
-pub numbers_begin : (text : List ℕ) → ReadNumbers text (0 ∷ 0 ∷ 0 ∷ 0 ∷ []) 0 0
-numbers_begin text = record { size = refl; fits = omega arith; reading = reading_begin is_number number_of text }
+module _ {S : Type 0} (steps : S → Option (Bor (List ℕ)) → S → Type 0) (text : List ℕ) where
+  pub record Left (so : List ℕ) (s : S) : Type 0 where
+    pub left : List (List ℕ)
+    pub reading : Reading is_number number_of text so left
+    pub road : YieldsList steps (λ x. x.now) s left
 
-module _ (text numbers : List ℕ) (count at : ℕ) (r : ReadNumbers text numbers count at) where
-  taken : length (take count numbers) ≡ count
-  taken = length-take-le count numbers (omega (arith, r.size, r.fits))
+  pub left_begin : (s : S) → YieldsList steps (λ x. x.now) s (items text) → Left [] s
+  left_begin s road = record { left = items text; reading = reading_begin is_number number_of text; road = road }
 
-  module _ (h : at ≤ length text) (f : Found) (e : f ≡ found_at text at) where
-    abbrev item : List ℕ
-    item = first_item (drop at text)
+  -- the next item
+  record Next (so : List ℕ) (x : Bor (List ℕ)) (u : S) : Type 0 where
+    rest : List (List ℕ)
+    reading : Reading is_number number_of text so (x.now ∷ rest)
+    road : YieldsList steps (λ x. x.now) u rest
 
-    item_is_number : (not f.item.minus && holds_number f.item) ≡ is_number item
-    unfolding found_at
-    item_is_number = ap (λ (x : Found). not x.item.minus && holds_number x.item) e ∙ plain_is item
+  next : (so : List ℕ) (s u : S) (x : Bor (List ℕ)) → Left so s → steps s (Some x) u → Next so x u
+  next so s u x l k = go l.left l.reading l.road
+    where
+      go : (left : List (List ℕ)) → Reading is_number number_of text so left → YieldsList steps (λ x. x.now) s left → Next so x u
+      go [] r road = absurd (road.runs x u k)
+      go (item ∷ rest) r road =
+          let a = road.runs.1 x u k in
+          record { rest = rest; reading = rw a.0 r; road = record { runs = a.1 } }
 
-    pub numbers_wrong : (not f.item.minus && holds_number f.item) ≡ false → header_of text ≡ wrong_header
-    numbers_wrong w =
-        not_fit text (rw (
-          reading_wrong is_number number_of text (take count numbers) at r.reading h (sym item_is_number ∙ w),
-          and-false
-              (leb (length text) 512),
-        ))
+  pub left_more : {so : List ℕ} (s : S) (x : Bor (List ℕ)) (u : S) (n : ℕ) → Left so s → steps s (Some x) u
+      → Some n ≡ cond (is_number x.now) (Some (number_of x.now)) None → Left (so ++ (n ∷ [])) u
+  left_more {so} s x u n l k e =
+      let m = next so s u x l k in
+      let t = taken (number_of x.now) n (is_number x.now) e in
+      record {
+        left = m.rest;
+        reading = rw t.value (reading_more is_number number_of text so x.now m.rest m.reading t.test);
+        road = m.road;
+      }
 
-    pub numbers_many : count ≡ 4 → header_of text ≡ wrong_header
-    numbers_many q =
-        not_header text
-        (ap header_in (sym r.reading.read ∙ ap (λ (l : List (List ℕ)). take count numbers ++ map number_of l) (items_next text at h))
-        ∙ many (take count numbers) (number_of item) (map number_of (items_from text (at + length item + 1))) (taken ∙ q))
+  pub left_wrong : {so : List ℕ} (s : S) (x : Bor (List ℕ)) (u : S) → Left so s → steps s (Some x) u
+      → ◌≡◌ {A = Option ℕ} None (cond (is_number x.now) (Some (number_of x.now)) None) → header_of text ≡ None
+  left_wrong {so} s x u l k e =
+      let m = next so s u x l k in
+      let wrong = reading_wrong is_number number_of text so x.now m.rest m.reading (refused (number_of x.now) (is_number x.now) e) in
+      not_fit text (rw (wrong, and-false (leb (length text) 512)))
 
-    ends : f.end ≡ at + length item
-    unfolding found_at
-    ends = ap (λ (x : Found). x.end) e
+  pub left_none : {so : List ℕ} (s u : S) → Left so s → steps s None u → length text ≤ 512 → header_of text ≡ header_in so
+  unfolding header_of
+  left_none {so} s u l k h = go l.left l.reading l.road
+    where
+      go : (left : List (List ℕ)) → Reading is_number number_of text so left → YieldsList steps (λ x. x.now) s left
+          → cond (line_fits text && every is_number (items text)) (header_in (map number_of (items text))) None ≡ header_in so
+      go [] r road =
+          rw (le-leb (length text) 512 h, reading_end is_number number_of text so r)
+          (ap header_in (sym (reading_all is_number number_of text so r)))
+      go (item ∷ rest) r road = absurd (road.runs.0 u k)
 
-    pub end_after : at ≤ f.end
-    end_after = omega (arith, ends)
+  left_many : {a b c d : ℕ} (s : S) (x : Bor (List ℕ)) (u : S) → Left (a ∷ b ∷ c ∷ d ∷ []) s → steps s (Some x) u → header_of text ≡ None
+  unfolding header_of
+  left_many {a} {b} {c} {d} s x u l k =
+      let m = next (a ∷ b ∷ c ∷ d ∷ []) s u x l k in
+      go (line_fits text && every is_number (items text)) (ap header_in (sym m.reading.read))
+    where
+      go : (t : Bool) → header_in (map number_of (items text)) ≡ None → cond t (header_in (map number_of (items text))) None ≡ None
+      go true e = e
+      go false e = refl
 
-    pub end_within : f.end ≤ length text
-    end_within = omega (arith, ends, item_within is_number number_of text (take count numbers) at r.reading h)
+  -- after one, two and three numbers
+  module _ (s : S) (x1 : Bor (List ℕ)) (s1 : S) (m : ℕ) (road : YieldsList steps (λ x. x.now) s (items text))
+      (k1 : steps s (Some x1) s1) (e1 : Some m ≡ cond (is_number x1.now) (Some (number_of x1.now)) None) where
+    pub one : Left (m ∷ []) s1
+    one = left_more s x1 s1 m (left_begin s road) k1 e1
 
-    pub numbers_more : T (not f.item.minus && holds_number f.item) → count < 4
-        → ReadNumbers text (set numbers count f.item.number) (count + 1) (f.end + 1)
-    unfolding found_at
-    numbers_more t l = record {
-      size = length-set numbers count f.item.number ∙ r.size;
-      fits = omega arith;
-      reading =
-          let n : T (is_number item) = subst T item_is_number t in
-          rw (
-            add-one count,
-            take-suc-set numbers count f.item.number (omega (arith, r.size)),
-            ends,
-            ap (λ (x : Found). x.item.number) e ∙ plain_number item n,
-          )
-          (reading_more is_number number_of text (take count numbers) at r.reading h n (number_full item n));
-    }
+    module _ (x2 : Bor (List ℕ)) (s2 : S) (t : ℕ) (k2 : steps s1 (Some x2) s2)
+        (e2 : Some t ≡ cond (is_number x2.now) (Some (number_of x2.now)) None) where
+      pub two : Left (m ∷ t ∷ []) s2
+      two = left_more s1 x2 s2 t one k2 e2
 
-  module _ (h : length text < at) where
-    read_all : take count numbers ≡ map number_of (items text)
-    read_all = reading_all is_number number_of text (take count numbers) at r.reading h
+      pub three : (x3 : Bor (List ℕ)) (s3 : S) (n : ℕ) → steps s2 (Some x3) s3
+          → Some n ≡ cond (is_number x3.now) (Some (number_of x3.now)) None → Left (m ∷ t ∷ n ∷ []) s3
+      three x3 s3 n k3 e3 = left_more s2 x3 s3 n two k3 e3
 
-    pub numbers_few : count < 3 → header_of text ≡ wrong_header
-    numbers_few l = not_header text (ap header_in (sym read_all) ∙ few (take count numbers) (omega (arith, taken)))
+  -- three numbers are the header whose order is the second of them
+  pub numbers_three : {a b c : ℕ} (s u : S) → Left (a ∷ b ∷ c ∷ []) s → steps s None u → length text ≤ 512
+      → header_of text ≡ Some (header_with a b c b)
+  numbers_three s u l k h = left_none s u l k h
 
-    module _ (q : length text ≤ 512) where
-      header_read : header_of text ≡ header_in (take count numbers)
-      unfolding header_of
-      header_read =
-          rw (le-leb (length text) 512 q, reading_end is_number number_of text (take count numbers) at r.reading h)
-          (ap header_in (sym read_all))
+  -- whether a fifth item follows four numbers; where none does, they are the header whose order is the fourth
+  module _ {a b c d : ℕ} (s u : S) (l : Left (a ∷ b ∷ c ∷ d ∷ []) s) where
+    pub fifth : (r : Option (Bor (List ℕ))) → is_some r ≡ true → steps s r u → header_of text ≡ None
+    fifth None e k = absurd (true≢false (sym e))
+    fifth (Some x) e k = left_many s x u l k
 
-      pub numbers_three : count ≡ 3
-          → header_of text ≡ header_with (get_or numbers 0 0) (get_or numbers 1 0) (get_or numbers 2 0) (get_or numbers 1 0)
-      numbers_three e = header_read ∙ ap (λ (k : ℕ). header_in (take k numbers)) e ∙ three numbers r.size
+    pub numbers_four : (r : Option (Bor (List ℕ))) → is_some r ≡ false → steps s r u → length text ≤ 512
+        → header_of text ≡ Some (header_with a b c d)
+    numbers_four None e k h = left_none s u l k h
+    numbers_four (Some x) e k h = absurd (true≢false e)
 
-      pub numbers_four : count ≡ 4
-          → header_of text ≡ header_with (get_or numbers 0 0) (get_or numbers 1 0) (get_or numbers 2 0) (get_or numbers 3 0)
-      numbers_four e = header_read ∙ ap (λ (k : ℕ). header_in (take k numbers)) e ∙ four numbers r.size
+-- an iterator that has ended yields nothing more
+pub ended : {F : Type 0} (g : Mut F (Bor ℕ × Unit {0}) Bool) (s t u : _) (r : Option (Bor (List ℕ))) → split_steps g s None t
+    → is_some r ≡ true → split_steps g t r u → ⊥
+ended g s t u None k e l = true≢false (sym e)
+ended g s t u (Some x) k e l = let p = k.0 in let q = k.1 in let h = l.0 in cc

@@ -1,5 +1,4 @@
-pub mod ItemsLaws
-pub mod ItemTells
+pub mod NumberLaws
 pub mod SignedLaws
 pub mod ReadSteps
 pub mod HeaderSteps

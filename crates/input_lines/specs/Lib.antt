@@ -1,4 +1,2 @@
 pub mod Header
 pub mod WordLine
-pub mod ValuesRead
-pub mod Inner

@@ -1,74 +1,48 @@
 // The first line of the input, as the header that it is.
-ghost use Rattle.std.specs.Prelude.{◌≡◌, ◌&&◌, not};
-ghost use Rattle.input_lines.specs.Header.{header_of, wrong_header};
-ghost use Rattle.items.specs.Scan.{holds_number};
+ghost use Rattle.std.specs.Prelude.{◌≡◌, cond, Some, None};
+ghost use Rattle.items.specs.Line.{is_number, number_of};
+ghost use Rattle.input_lines.specs.Header.{header_of};
 
-use items::{Item, holds_number, item_at};
+use crate::LONGEST;
+use items::read_number;
 
-// m, t, s and order; all 0 where the header is wrong.
-#[derive(Clone, Copy)]
+#[derive(Clone, Copy, PartialEq, Eq, Default)]
 pub struct Header {
-    pub good: bool,
     pub m: u16,
     pub t: u16,
     pub s: u16,
     pub order: u16,
 }
 
-fn wrong() -> Header
-    ensures { result ≡ wrong_header }
+// A number with no minus.
+fn read_plain(item: &[u8]) -> Option<u16>
+    ensures { result ≡ cond (is_number item.now) (Some (number_of item.now)) None }
 {
-    Header {
-        good: false,
-        m: 0,
-        t: 0,
-        s: 0,
-        order: 0,
+    let number = read_number(item)?;
+    if number.minus {
+        None
+    } else {
+        Some(number.size)
     }
 }
 
-// A number with no minus.
-fn is_plain(item: Item) -> bool
-    ensures { result ≡ (not item.minus && holds_number item) }
-{
-    !item.minus && holds_number(item)
-}
-
-pub fn read_header(text: &[u8]) -> Header
+pub fn read_header(text: &[u8]) -> Option<Header>
     ensures { result ≡ header_of text.now }
 {
-    if 512 < text.len() {
-        return wrong();
+    if LONGEST < text.len() {
+        return None;
     }
-    let mut numbers = [0u16; 4];
-    let mut count = 0;
-    let mut at = 0;
-    while at <= text.len() {
-        let found = item_at(text, at);
-        let item = found.item;
-        if !is_plain(item) {
-            return wrong();
-        }
-        if count == 4 {
-            return wrong();
-        }
-        numbers[count] = item.number;
-        count += 1;
-        at = found.end + 1;
-    }
-    if count < 3 {
-        return wrong();
-    }
-    let m = numbers[0];
-    let t = numbers[1];
-    let s = numbers[2];
+    let mut items = text.split(|b| *b == b' ');
+    let m = read_plain(items.next()?)?;
+    let t = read_plain(items.next()?)?;
+    let s = read_plain(items.next()?)?;
     // an order that is left out is t
-    let order = if count == 3 { t } else { numbers[3] };
-    Header {
-        good: true,
-        m,
-        t,
-        s,
-        order,
+    let order = match items.next() {
+        Some(item) => read_plain(item)?,
+        None => t,
+    };
+    if items.next().is_some() {
+        return None;
     }
+    Some(Header { m, t, s, order })
 }

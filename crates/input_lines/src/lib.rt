@@ -3,3 +3,6 @@
 
 pub mod header; // header.rt: the first line
 pub mod word_line; // word_line.rt: the values of a word line
+
+// A line has at most so many bytes before its newline.
+const LONGEST: usize = 512;

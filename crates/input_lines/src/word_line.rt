@@ -1,66 +1,34 @@
 // A word line, as the soft values that it is.
-ghost use Rattle.std.specs.Prelude.{◌≡◌, false, T, length};
-ghost use Rattle.input_lines.specs.WordLine.{signed, values_of};
-ghost use Rattle.input_lines.specs.ValuesRead.{ValuesRead};
-ghost use Rattle.input_lines.specs.Inner.HoldsValue.{holds_value};
+ghost use Rattle.std.specs.Prelude.{◌≡◌, ◌≤◌, cond, Some, None, IfSome, length, option_map, take};
+ghost use Rattle.input_lines.specs.WordLine.{is_value, value_of, values_of};
 
-use items::{Item, holds_number, item_at};
-
-// Whether a line is of the right form, and if so how many values it has.
-#[derive(Clone, Copy)]
-pub struct Line {
-    pub good: bool,
-    pub count: usize,
-}
-
-fn wrong() -> Line
-    ensures { result ≡ record { good = false; count = 0 } }
-{
-    Line {
-        good: false,
-        count: 0,
-    }
-}
+use crate::LONGEST;
+use items::read_number;
 
 // A number from -128 to 127.
-fn holds_value(item: Item) -> bool
-    ensures { result ≡ holds_value item }
+fn read_value(item: &[u8]) -> Option<i8>
+    ensures { result ≡ cond (is_value item.now) (Some (value_of item.now)) None }
 {
-    let most: u16 = if item.minus { 128 } else { 127 };
-    holds_number(item) && item.number <= most
+    let number = read_number(item)?;
+    let size = i16::try_from(number.size).ok()?;
+    let value = if number.minus { -size } else { size };
+    i8::try_from(value).ok()
 }
 
-fn value_of(item: Item) -> i8
-    requires { T (holds_value item) }
-    ensures { result ≡ signed item.minus item.number }
-{
-    let size = item.number as i16;
-    if item.minus {
-        (0 - size) as i8
-    } else {
-        size as i8
-    }
-}
-
-// The values of a line, at the start of `values`: 512 bytes hold at most 256 of them.
-pub fn read_values(text: &[u8], values: &mut [i8; 256]) -> Line
+// The values of a line, at the start of `values`, and how many they are: 512 bytes hold at most 256 of them. Their count is given and no
+// slice, since the promise is of the lent array.
+pub fn read_values(text: &[u8], values: &mut [i8; 256]) -> Option<usize>
     requires { length values.old ≡ 256 }
-    ensures { ValuesRead (values_of text.now) result values.new }
+    ensures fits { IfSome result (λ count. count ≤ length values.new) }
+    ensures holds { option_map (λ count. take count values.new) result ≡ values_of text.now }
 {
-    if 512 < text.len() {
-        return wrong();
+    if LONGEST < text.len() {
+        return None;
     }
     let mut count = 0;
-    let mut at = 0;
-    while at <= text.len() {
-        let found = item_at(text, at);
-        let item = found.item;
-        if !holds_value(item) {
-            return wrong();
-        }
-        values[count] = value_of(item);
+    for item in text.split(|b| *b == b' ') {
+        values[count] = read_value(item)?;
         count += 1;
-        at = found.end + 1;
     }
-    Line { good: true, count }
+    Some(count)
 }

@@ -1,2 +1,2 @@
-pub mod ScanLaws
-pub mod ScanSteps
+pub mod DigitLaws
+pub mod SplitLaws

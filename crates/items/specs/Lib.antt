@@ -1,2 +1,2 @@
 pub mod Line
-pub mod Scan
+pub mod Number

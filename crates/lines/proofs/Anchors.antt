@@ -1,12 +1,13 @@
 -- Lines of the paper and of the requests that are computed, so that a wrong definition fails here. Assumes nothing.
 use mathlib.Core.Path.{◌≡◌, refl}
-use mathlib.Core.Bool.{true, false}
+use mathlib.Core.Bool.{false}
 use mathlib.Core.List.{[], ◌∷◌, map}
 use lib.IntN.{pos, negsuc}
+use Rattle.std.specs.Prelude.{Some, None, option_map}
 use Rattle.codes.specs.Code.{entry_of, dimension_of}
 use Rattle.frame.specs.Refusal.{header_refusal}
 use Rattle.items.specs.Line.{items, is_number, number_of}
-use Rattle.input_lines.specs.Header.{wrong_header, header_with, header_of}
+use Rattle.input_lines.specs.Header.{header_with, header_of}
 use Rattle.input_lines.specs.WordLine.{is_value, value_of, values_of}
 use Rattle.output_lines.specs.Text.{bytes_in}
 use Rattle.output_lines.specs.Output.{decimal_in, decimal, hex_of, refused_line, ok_line}
@@ -14,24 +15,25 @@ use Rattle.lines.specs.Answer.{refusal_of, call_of}
 use Rattle.lines.specs.Program.{lines_of}
 
 -- the example's header, and one with zeros before its numbers
-headers : map header_of (bytes_in "4 1 0 1" ∷ bytes_in "04 001 0 3" ∷ []) ≡ header_with 4 1 0 1 ∷ header_with 4 1 0 3 ∷ []
+headers : map header_of (bytes_in "4 1 0 1" ∷ bytes_in "04 001 0 3" ∷ []) ≡ Some (header_with 4 1 0 1) ∷ Some (header_with 4 1 0 3) ∷ []
 unfolding header_of items is_number number_of
 headers = refl
 
 -- Req 01: an order that is left out is t, with zeros before it too
 left_out : map header_of (bytes_in "4 1 0" ∷ bytes_in "4 2 0" ∷ bytes_in "4 02 000" ∷ bytes_in "6 3 0" ∷ [])
-    ≡ header_with 4 1 0 1 ∷ header_with 4 2 0 2 ∷ header_with 4 2 0 2 ∷ header_with 6 3 0 3 ∷ []
+    ≡ Some (header_with 4 1 0 1) ∷ Some (header_with 4 2 0 2) ∷ Some (header_with 4 2 0 2) ∷ Some (header_with 6 3 0 3) ∷ []
 unfolding header_of items is_number number_of
 left_out = refl
 
 -- and a header's order is the one that decode is given: `4 2 0` asks for order 2, `4 2 0 1` for 1
-orders_asked : map (λ text. (call_of (header_of text) []).order) (bytes_in "4 2 0" ∷ bytes_in "4 2 0 1" ∷ []) ≡ 2 ∷ 1 ∷ []
+orders_asked : map (λ text. option_map (λ h. (call_of h []).order) (header_of text)) (bytes_in "4 2 0" ∷ bytes_in "4 2 0 1" ∷ [])
+    ≡ Some 2 ∷ Some 1 ∷ []
 unfolding header_of items is_number number_of
 orders_asked = refl
 
 -- too few numbers, too many, two spaces, a space at the end, a minus, and a blank line
 wrong_headers : map header_of (bytes_in "4 1" ∷ bytes_in "4 1 0 1 1" ∷ bytes_in "4  1 0" ∷ bytes_in "4 1 0 " ∷ bytes_in "4 1 -0" ∷ [] ∷ [])
-    ≡ wrong_header ∷ wrong_header ∷ wrong_header ∷ wrong_header ∷ wrong_header ∷ wrong_header ∷ []
+    ≡ None ∷ None ∷ None ∷ None ∷ None ∷ None ∷ []
 unfolding header_of items is_number number_of
 wrong_headers = refl
 
@@ -42,14 +44,14 @@ unfolding header_refusal dimension_of entry_of
 header_refusals = refl
 
 -- an unknown t is refused with 1 and not, as an order, with 3: `4 0 0`, `4 5 0` and `4 257 0`; `4 2 7` with 2
-left_out_refusals : map (λ text. refusal_of (header_of text))
+left_out_refusals : map (λ text. option_map refusal_of (header_of text))
     (bytes_in "4 0 0" ∷ bytes_in "4 5 0" ∷ bytes_in "4 257 0" ∷ bytes_in "4 2 7" ∷ [])
-    ≡ 1 ∷ 1 ∷ 1 ∷ 2 ∷ []
+    ≡ Some 1 ∷ Some 1 ∷ Some 1 ∷ Some 2 ∷ []
 unfolding header_of items is_number number_of header_refusal dimension_of entry_of
 left_out_refusals = refl
 
 -- values, and what is "outside -128 to 127" or no number
-values_read : values_of (bytes_in "-128 127 -0 007") ≡ record { good = true; values = negsuc 127 ∷ pos 127 ∷ pos 0 ∷ pos 7 ∷ [] }
+values_read : values_of (bytes_in "-128 127 -0 007") ≡ Some (negsuc 127 ∷ pos 127 ∷ pos 0 ∷ pos 7 ∷ [])
 unfolding values_of items is_value value_of is_number number_of
 values_read = refl
 

@@ -1,5 +1,5 @@
 -- What a line prints, case by case.
---   says_header, says_nothing, says_refused   the first line: wrong, words follow, refused
+--   says_nothing, says_refused, says_header   the first line: words follow, refused, wrong
 --   answer_says                               the first line's answer by the header that was read
 --   answers_line                              a word line of a wrong form
 --   answers_refused, answers_ok               what decode gave for its values
@@ -7,14 +7,15 @@
 --   missing_header                            the first line of an empty input
 -- Assumes nothing.
 use mathlib.Core.Path.{◌≡◌, refl, sym, ap, ◌∙◌}
-use mathlib.Core.Bool.{Bool, true, false, cond, ◌&&◌}
+use mathlib.Core.Bool.{Bool, true, false, cond}
 use mathlib.Core.List.{List, []}
 use Prim.Native.Nat.{ℕ, ◌<◌}
 use native.Mathlib.Omega.{arith}
-use borrow.Author.Tests.{eq-eqb, ne_eqb, lt-leb}
+use borrow.Author.Tests.{eq-eqb, ne_eqb}
 use lib.Dec.{eqb}
 use lib.IntN.{ℤ}
 use lib.ListN.{length, take, replicate}
+use Rattle.std.specs.Prelude.{Option, Some, None}
 use Rattle.codes.specs.Code.{Known}
 use Rattle.words.specs.Packing.{bytes_of}
 use Rattle.frame.proofs.RefusalLaws.{decode_passed}
@@ -28,47 +29,42 @@ use Rattle.output_lines.specs.Output.{header_line, line_line, refused_line, ok_l
 use Rattle.lines.specs.Answer.{refusal_of, header_says, header_answer, header_goes_on, call_of, result_line, word_answer}
 use Rattle.input_lines.specs.declared.header.Header.{Header}
 use Rattle.input_lines.proofs.HeaderSteps.{too_long}
+use Rattle.input_lines.proofs.ValuesSteps.{values_long}
 
 module _ (h : Header) where
-  pub says_header : h.good ≡ false → header_says h ≡ header_line
+  pub says_nothing : refusal_of h ≡ 0 → header_says (Some h) ≡ []
   unfolding header_says
-  says_header e = rw e
+  says_nothing z = rw (eq-eqb (refusal_of h) 0 z)
 
-  pub says_nothing : h.good ≡ true → refusal_of h ≡ 0 → header_says h ≡ []
+  pub says_refused : (refusal_of h ≡ 0 → ⊥) → header_says (Some h) ≡ refused_line (refusal_of h)
   unfolding header_says
-  says_nothing e z =
-      ap (λ (b : Bool). cond b (cond (eqb (refusal_of h) 0) [] (refused_line (refusal_of h))) header_line) e
-      ∙ ap (λ (b : Bool). cond b [] (refused_line (refusal_of h))) (eq-eqb (refusal_of h) 0 z)
+  says_refused n = rw (ne_eqb (refusal_of h) 0 n)
 
-  pub says_refused : h.good ≡ true → (refusal_of h ≡ 0 → ⊥) → header_says h ≡ refused_line (refusal_of h)
-  unfolding header_says
-  says_refused e n =
-      ap (λ (b : Bool). cond b (cond (eqb (refusal_of h) 0) [] (refused_line (refusal_of h))) header_line) e
-      ∙ ap (λ (b : Bool). cond b [] (refused_line (refusal_of h))) (ne_eqb (refusal_of h) 0 n)
+pub says_header : header_says None ≡ header_line
+unfolding header_says
+says_header = refl
 
-  -- words follow exactly where nothing is said
-  pub nothing_goes_on : length (header_says h) ≡ 0 → header_goes_on h ≡ true
-  unfolding header_says header_goes_on refused_line header_line
-  nothing_goes_on e = go h.good (eqb (refusal_of h) 0) e
-    where
-      go : (good zero : Bool) → length (cond good (cond zero [] (refused_line (refusal_of h))) header_line) ≡ 0 → (good && zero) ≡ true
-      go true true e = refl
-      go true false e = absurd (omega (arith, e))
-      go false zero e = absurd (omega (arith, e))
+-- words follow exactly where nothing is said
+pub nothing_goes_on : (h : Header) → length (header_says (Some h)) ≡ 0 → header_goes_on (Some h) ≡ true
+unfolding header_says header_goes_on refused_line
+nothing_goes_on h e = go (eqb (refusal_of h) 0) e
+  where
+    go : (zero : Bool) → length (cond zero [] (refused_line (refusal_of h))) ≡ 0 → zero ≡ true
+    go true e = refl
+    go false e = absurd (omega (arith, e))
 
-  pub something_ends : (length (header_says h) ≡ 0 → ⊥) → header_goes_on h ≡ false
-  unfolding header_says header_goes_on
-  something_ends n = go h.good (eqb (refusal_of h) 0) n
-    where
-      go : (good zero : Bool) → (length (cond good (cond zero [] (refused_line (refusal_of h))) header_line) ≡ 0 → ⊥) → (good && zero)
-          ≡ false
-      go true true n = absurd (n refl)
-      go true false n = refl
-      go false zero n = refl
+pub something_ends : (header : Option Header) → (length (header_says header) ≡ 0 → ⊥) → header_goes_on header ≡ false
+unfolding header_says header_goes_on
+something_ends None n = refl
+something_ends (Some h) n = go (eqb (refusal_of h) 0) n
+  where
+    go : (zero : Bool) → (length (cond zero [] (refused_line (refusal_of h))) ≡ 0 → ⊥) → zero ≡ false
+    go true n = absurd (n refl)
+    go false n = refl
 
-pub answer_says : (text : List ℕ) (h : Header) → h ≡ header_of text → header_answer text ≡ header_says h
+pub answer_says : (text : List ℕ) (header : Option Header) → header ≡ header_of text → header_answer text ≡ header_says header
 unfolding header_answer
-answer_says text h e = ap header_says (sym e)
+answer_says text header e = ap header_says (sym e)
 
 -- where nothing is refused, the code is known
 pub decoded_known : {m t s order : ℕ} {soft : List ℤ} {before after : List ℕ} {d : Decoding}
@@ -79,16 +75,16 @@ decoded_known {d = d} (nothing e n r) z = let q : ◌≡◌ {A = ℕ} 6 0 = sym 
 decoded_known {m} {t} {s} {order} {soft} {before} (decoded e r) z = (decode_passed m t s order (length soft) (length before) e).known
 
 module _ (h : Header) (text : List ℕ) where
-  pub answers_line : (values_of text).good ≡ false → word_answer h text ≡ line_line
+  pub answers_line : values_of text ≡ None → word_answer h text ≡ line_line
   unfolding word_answer
   answers_line e = rw e
 
-  module _ (good : (values_of text).good ≡ true) (soft : List ℤ) (q : soft ≡ (values_of text).values) (d : Decoding) (after : List ℕ)
+  module _ (soft : List ℤ) (q : values_of text ≡ Some soft) (d : Decoding) (after : List ℕ)
       (answers : DecodeAnswers h.m h.t h.s h.order soft (replicate 8 0) d after) where
     answers_result : word_answer h text ≡ result_line h.m (record { answer = d; after = after })
     unfolding word_answer
     answers_result =
-        rw (good, ← q) (ap (result_line h.m) (sym (answers_as_result (call_of h soft) (record { answer = d; after = after }) answers)))
+        rw q (ap (result_line h.m) (sym (answers_as_result (call_of h soft) (record { answer = d; after = after }) answers)))
 
     pub answers_refused : (d.refusal ≡ 0 → ⊥) → word_answer h text ≡ refused_line d.refusal
     unfolding result_line
@@ -108,10 +104,9 @@ module _ (a b : List ℕ) (p : 512 < length a) (q : 512 < length b) where
   header_answer_long = ap header_says header_long
 
 pub word_answer_long : (h : Header) (a b : List ℕ) → 512 < length a → 512 < length b → word_answer h a ≡ word_answer h b
-unfolding values_of
-word_answer_long h a b p q = answers_line h a (rw (lt-leb (length a) 512 p)) ∙ sym (answers_line h b (rw (lt-leb (length b) 512 q)))
+word_answer_long h a b p q = answers_line h a (values_long a p) ∙ sym (answers_line h b (values_long b q))
 
 -- a missing header is a wrong one
 pub missing_header : header_answer [] ≡ header_line
 unfolding header_answer header_of items is_number
-missing_header = says_header (header_of []) refl
+missing_header = says_header

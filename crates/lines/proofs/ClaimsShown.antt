@@ -3,6 +3,7 @@ use mathlib.Core.Path.{◌≡◌, refl, ap, sym, ◌∙◌}
 use mathlib.Core.Bool.{Bool, true, false}
 use mathlib.Core.List.{List, [], ◌∷◌, ◌++◌, append-nil, append_assoc}
 use Prim.Native.Nat.{ℕ}
+use Rattle.std.specs.Prelude.{Option, Some, None}
 use Rattle.input_lines.specs.Header.{header_of}
 use Rattle.lines.specs.Answer.{goes_on}
 use Rattle.input_lines.specs.declared.header.Header.{Header}
@@ -27,8 +28,9 @@ blocks_still m (block ∷ blocks) =
 pub blocks_do_not_matter : BlocksDoNotMatter
 blocks_do_not_matter blocks = blocks_still start blocks ∙ still_start (joined blocks)
 
-words_or_nothing : (b : Bool) (h : Header) → last_says (words_or_end b h) [] ≡ []
-words_or_nothing true h = refl
+words_or_nothing : (b : Bool) (h : Option Header) → last_says (words_or_end b h) [] ≡ []
+words_or_nothing true (Some h) = refl
+words_or_nothing true None = refl
 words_or_nothing false h = refl
 
 -- after a line the end of the input adds nothing

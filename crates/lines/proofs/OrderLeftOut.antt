@@ -13,11 +13,12 @@ use borrow.Author.Tests.{ne_eqb, le-leb}
 use lib.Dec.{T, leb, leb→le, eqb}
 use lib.ListN.{length, length-append}
 use Rattle.field.proofs.TestLaws.{and_left, and_right, and_both, is_true}
+use Rattle.std.specs.Prelude.{Option}
 use Rattle.items.specs.Line.{on_first, items, is_digit, all_digits, is_number, number_of, every}
-use Rattle.items.proofs.ScanLaws.{digit_low}
+use Rattle.items.proofs.DigitLaws.{digit_low}
 use Rattle.input_lines.specs.Header.{header_in, header_of}
 use Rattle.input_lines.specs.declared.header.Header.{Header}
-use Rattle.input_lines.proofs.ItemTells.{number_full}
+use Rattle.input_lines.proofs.NumberLaws.{number_full}
 use Rattle.output_lines.specs.Text.{newline}
 use Rattle.lines.specs.Answer.{header_says, header_answer, header_goes_on}
 use Rattle.lines.specs.Program.{with_byte, lines_of, words_if, answers_to, program_output}
@@ -137,7 +138,7 @@ header_said a l t few =
 -- what is printed for a first line and after it goes by its text only through its header
 by_header : (a b : List ℕ) (words : List (List ℕ)) → header_of a ≡ header_of b → answers_to (a ∷ words) ≡ answers_to (b ∷ words)
 unfolding answers_to header_answer
-by_header a b words e = ap (λ (h : Header). header_says h ++ words_if (header_goes_on h) h words) e
+by_header a b words e = ap (λ (h : Option Header). header_says h ++ words_if (header_goes_on h) h words) e
 
 module _ (a b c : List ℕ) (ha : T (is_number a)) (hb : T (is_number b)) (hc : T (is_number c)) where
   abbrev three : List ℕ

@@ -8,6 +8,7 @@ use mathlib.Core.Bool.{Bool, true, false}
 use mathlib.Core.List.{List, [], ◌∷◌, ◌++◌, append-nil, append_assoc}
 use Prim.Native.Nat.{ℕ}
 use lib.Dec.{eqb}
+use Rattle.std.specs.Prelude.{Option, Some, None}
 use Rattle.input_lines.specs.Header.{header_of}
 use Rattle.lines.specs.Answer.{header_answer, goes_on, word_answer}
 use Rattle.input_lines.specs.declared.header.Header.{Header}
@@ -25,8 +26,9 @@ lines_say First lines = answers_to lines
 lines_say (Words h) lines = word_answers h lines
 lines_say Ended lines = []
 
-words_or_end_lem : (b : Bool) (h : Header) (lines : List (List ℕ)) → lines_say (words_or_end b h) lines ≡ words_if b h lines
-words_or_end_lem true h lines = refl
+words_or_end_lem : (b : Bool) (h : Option Header) (lines : List (List ℕ)) → lines_say (words_or_end b h) lines ≡ words_if b h lines
+words_or_end_lem true (Some h) lines = refl
+words_or_end_lem true None lines = refl
 words_or_end_lem false h lines = refl
 
 -- a line, and those after it
@@ -52,9 +54,10 @@ join_more [] b (line ∷ lines) = refl
 join_more (a ∷ text) b [] = refl
 join_more (a ∷ text) b (line ∷ lines) = ap (λ (l : List ℕ). (a ∷ l) ∷ lines) (sym (append_assoc text (b ∷ []) line))
 
-words_none : (b : Bool) (h : Header) → words_if b h [] ≡ []
+words_none : (b : Bool) (h : Option Header) → words_if b h [] ≡ []
 unfolding word_answers
-words_none true h = refl
+words_none true (Some h) = refl
+words_none true None = refl
 words_none false h = refl
 
 -- what the end of the input prints

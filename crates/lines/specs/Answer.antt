@@ -1,11 +1,11 @@
 -- What each line prints, for texts of any length (document 01, "The program"). Everything here computes.
 --   refusal_of h         the refusal that a header meets, 0 for none
---   header_says h        what a first line prints that is the header h: nothing where words follow
+--   header_says header   what a first line prints that is this header, or none: nothing where words follow
 --   header_answer text   what the first line prints
 --   goes_on text         words follow
---   word_answer h text   what a word line prints under the header h
+--   word_answer h text   what a word line prints under the header h: soft_answer, by the values that it holds
 -- Assumes nothing.
-use Rattle.std.specs.Prelude.{Bool, cond, ◌&&◌, List, [], ℕ, eqb, ℤ, take, replicate}
+use Rattle.std.specs.Prelude.{Bool, false, cond, List, [], ℕ, eqb, Option, Some, None, ℤ, take, replicate}
 use Rattle.words.specs.Packing.{bytes_of}
 use Rattle.frame.specs.Refusal.{header_refusal}
 use Rattle.decode.specs.Call.{Call, Result}
@@ -20,14 +20,16 @@ abbrev pub refusal_of : Header → ℕ
 refusal_of h = header_refusal h.m h.t h.s h.order
 
 -- "A wrong header (a missing one too) prints `header` and ends; refusals 1 to 3 print `refused N` and end."
-unfoldable pub header_says : Header → List ℕ
-header_says h = cond h.good (cond (eqb (refusal_of h) 0) [] (refused_line (refusal_of h))) header_line
+unfoldable pub header_says : Option Header → List ℕ
+header_says None = header_line
+header_says (Some h) = cond (eqb (refusal_of h) 0) [] (refused_line (refusal_of h))
 
 unfoldable pub header_answer : List ℕ → List ℕ
 header_answer text = header_says (header_of text)
 
-unfoldable pub header_goes_on : Header → Bool
-header_goes_on h = h.good && eqb (refusal_of h) 0
+unfoldable pub header_goes_on : Option Header → Bool
+header_goes_on None = false
+header_goes_on (Some h) = eqb (refusal_of h) 0
 
 abbrev pub goes_on : List ℕ → Bool
 goes_on text = header_goes_on (header_of text)
@@ -43,6 +45,10 @@ result_line m r =
     (ok_line (take (bytes_of m) r.after) r.answer.distance r.answer.flips r.answer.candidates)
     (refused_line r.answer.refusal)
 
+abbrev pub soft_answer : Header → Option (List ℤ) → List ℕ
+soft_answer h None = line_line
+soft_answer h (Some soft) = result_line h.m (result_of (call_of h soft))
+
 -- "A wrong or too long word line, a blank one, or a value outside -128 to 127 prints `line`"
 unfoldable pub word_answer : Header → List ℕ → List ℕ
-word_answer h text = cond (values_of text).good (result_line h.m (result_of (call_of h (values_of text).values))) line_line
+word_answer h text = soft_answer h (values_of text)

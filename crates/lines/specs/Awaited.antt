@@ -4,7 +4,7 @@
 --   last_says      what the end of the input prints, where a text stands before it
 --   is_ended       nothing more is answered
 -- Assumes nothing.
-use Rattle.std.specs.Prelude.{Bool, true, false, List, [], ◌∷◌, ℕ}
+use Rattle.std.specs.Prelude.{Bool, true, false, List, [], ◌∷◌, ℕ, Option, Some, None}
 use Rattle.input_lines.specs.Header.{header_of}
 use Rattle.lines.specs.Answer.{header_answer, goes_on, word_answer}
 use Rattle.input_lines.specs.declared.header.Header.{Header}
@@ -16,9 +16,11 @@ line_says First text = header_answer text
 line_says (Words h) text = word_answer h text
 line_says Ended text = []
 
-abbrev pub words_or_end : Bool → Header → Phase
-words_or_end true h = Words h
-words_or_end false h = Ended
+-- words follow under a header alone
+abbrev pub words_or_end : Bool → Option Header → Phase
+words_or_end true (Some h) = Words h
+words_or_end true None = Ended
+words_or_end false header = Ended
 
 abbrev pub phase_after : Phase → List ℕ → Phase
 phase_after First text = words_or_end (goes_on text) (header_of text)

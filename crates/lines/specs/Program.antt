@@ -3,7 +3,7 @@
 --   word_answers      what the word lines print
 --   program_output    the output
 -- Assumes nothing.
-use Rattle.std.specs.Prelude.{Bool, true, false, List, [], ◌∷◌, ◌++◌, ℕ, eqb}
+use Rattle.std.specs.Prelude.{Bool, true, false, List, [], ◌∷◌, ◌++◌, ℕ, eqb, Option, Some, None}
 use Rattle.input_lines.specs.Header.{header_of}
 use Rattle.output_lines.specs.Text.{newline}
 use Rattle.output_lines.specs.Output.{header_line}
@@ -26,9 +26,10 @@ unfoldable pub word_answers : Header → List (List ℕ) → List ℕ
 word_answers h [] = []
 word_answers h (word ∷ words) = word_answer h word ++ word_answers h words
 
-abbrev pub words_if : Bool → Header → List (List ℕ) → List ℕ
-words_if true h words = word_answers h words
-words_if false h words = []
+abbrev pub words_if : Bool → Option Header → List (List ℕ) → List ℕ
+words_if true (Some h) words = word_answers h words
+words_if true None words = []
+words_if false header words = []
 
 -- "A wrong header (a missing one too) prints `header` and ends; refusals 1 to 3 print `refused N` and end."
 unfoldable pub answers_to : List (List ℕ) → List ℕ

@@ -25,18 +25,17 @@ fn answer_first(text: &[u8], out: &mut [u8]) -> Answered
     requires { 64 ≤ length out.old }
     ensures { AnswersLine Phase.First text.now out.old result out.new }
 {
-    let h = read_header(text);
-    let wrote = answer_header(h, out);
-    if wrote == 0 {
-        return Answered {
-            phase: Phase::Words(h),
-            wrote,
-        };
-    }
-    Answered {
-        phase: Phase::Ended,
-        wrote,
-    }
+    let header = read_header(text);
+    let wrote = answer_header(header, out);
+    let phase = match header {
+        Some(h) => if wrote == 0 {
+            Phase::Words(h)
+        } else {
+            Phase::Ended
+        },
+        None => Phase::Ended,
+    };
+    Answered { phase, wrote }
 }
 
 // Writes the answer to a line at the start of the output.

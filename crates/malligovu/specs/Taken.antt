@@ -19,7 +19,6 @@ use Rattle.lines.specs.declared.phase.Phase.{Phase}
 use Rattle.stdio.specs.Outcome.{Within}
 use Rattle.stdio.specs.declared.Outcome.{Outcome}
 use Rattle.stdio.specs.declared.Outcome.TheVariants.{Moved, Later, Failed}
-use Rattle.malligovu.specs.declared.Turn.{Turn}
 
 pub record Takes (m : Memory) (bytes : List ℕ) (s : State) (line : List ℕ) : Type 0 where
   pub remembers : memory_of s line ≡ after_block m bytes
@@ -29,8 +28,8 @@ pub record Printed (text before after : List ℕ) : Type 0 where
   pub count : ℕ
   pub writes : Put text before count after
 
-pub record Took (m : Memory) (bytes text before : List ℕ) (r : Turn) (line after : List ℕ) : Type 0 where
-  pub takes : Takes m bytes r.state line
+pub record Took (m : Memory) (bytes text before : List ℕ) (s : State) (line after : List ℕ) : Type 0 where
+  pub takes : Takes m bytes s line
   pub printed : Printed text before after
 
 -- once the program has ended there is none; else there is one where all was written
@@ -38,17 +37,17 @@ pub record ReadsOn (written : Bool) (phase : Phase) (on : Bool) : Type 0 where
   pub ends : is_ended phase ≡ true → on ≡ false
   pub goes_on : is_ended phase ≡ false → on ≡ written
 
-pub record Answers (m : Memory) (bytes before : List ℕ) (r : Turn) (line after : List ℕ) : Type 0 where
-  pub took : Took m bytes (block_says m bytes) before r line after
-  pub ends : is_ended r.state.phase ≡ true → r.on ≡ false
+pub record Answers (m : Memory) (bytes before : List ℕ) (s : State) (on : Bool) (line after : List ℕ) : Type 0 where
+  pub took : Took m bytes (block_says m bytes) before s line after
+  pub ends : is_ended s.phase ≡ true → on ≡ false
 
 -- 0 bytes is the end of the input, and nothing else is. Where the read is to be made again, or failed, no text is made, and nothing of the
 -- unfinished line is lost
-abbrev pub Follows : Outcome → Memory → List ℕ → List ℕ → Turn → List ℕ → List ℕ → Type 0
-Follows (Moved zero) m block before r line after = Took m [] (end_says m) before r line after × (r.on ≡ false)
-Follows (Moved (suc n)) m block before r line after = Answers m (take (suc n) block) before r line after
-Follows Later m block before r line after = Took m [] [] before r line after × (r.on ≡ true)
-Follows Failed m block before r line after = Took m [] [] before r line after × (r.on ≡ false)
+abbrev pub Follows : Outcome → Memory → List ℕ → List ℕ → State → Bool → List ℕ → List ℕ → Type 0
+Follows (Moved zero) m block before s on line after = Took m [] (end_says m) before s line after × (on ≡ false)
+Follows (Moved (suc n)) m block before s on line after = Answers m (take (suc n) block) before s on line after
+Follows Later m block before s on line after = Took m [] [] before s line after × (on ≡ true)
+Follows Failed m block before s on line after = Took m [] [] before s line after × (on ≡ false)
 
 pub record TakesSome (m : Memory) (block : List ℕ) (s : State) (line : List ℕ) : Type 0 where
   pub count : ℕ
@@ -56,8 +55,8 @@ pub record TakesSome (m : Memory) (block : List ℕ) (s : State) (line : List �
   pub takes : Takes m (take count block) s line
 
 -- the last follows from the others
-pub record Turns (m : Memory) (block before : List ℕ) (r : Turn) (line after : List ℕ) : Type 0 where
+pub record Turns (m : Memory) (block before : List ℕ) (s : State) (on : Bool) (line after : List ℕ) : Type 0 where
   pub got : Outcome
   pub within : Within got block
-  pub follows : Follows got m block before r line after
-  pub takes : TakesSome m block r.state line
+  pub follows : Follows got m block before s on line after
+  pub takes : TakesSome m block s line

@@ -1,9 +1,8 @@
 // How the program is used, for whoever starts it with an argument: it takes none, and would wait for standard input in silence.
 
-// Standard error.
-const STDERR_FILENO: i32 = 2;
+use stdio::STDERR_FILENO;
 
-// Says it on standard error, since standard output carries answers alone.
+// Says it on standard error, since standard output carries answers alone; by its number, since `eprint!` would ask the caller for a handle.
 pub fn say() {
     io::write_all(
         STDERR_FILENO,

@@ -72,7 +72,7 @@ unfolding decimal
 decimal_most n k h = most_in (suc n) n k h
 
 pub hex_more : (bytes : List ℕ) (b : ℕ)
-    → hex_of (bytes ++ (b ∷ [])) ≡ hex_of bytes ++ (hex_digit_ascii (b / 16) ∷ []) ++ (hex_digit_ascii (b % 16) ∷ [])
+    → hex_of (bytes ++ (b ∷ [])) ≡ hex_of bytes ++ (hex_digit_ascii (b / 16) ∷ hex_digit_ascii (b % 16) ∷ [])
 unfolding hex_of
 hex_more [] b = refl
 hex_more (x ∷ bytes) b = ap (λ (l : List ℕ). hex_digit_ascii (x / 16) ∷ hex_digit_ascii (x % 16) ∷ l) (hex_more bytes b)

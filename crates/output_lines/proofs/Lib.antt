@@ -1,3 +1,2 @@
 pub mod DecimalLaws
 pub mod PutLaws
-pub mod PutSteps

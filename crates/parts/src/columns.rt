@@ -15,18 +15,16 @@ fn moved(symbol: u8, q: usize) -> u16
     requires { q < 3 }
     ensures { result ≡ symbol / 2 * 2 ^ (4 * q) }
 {
-    ((symbol / 2) as u16) << (4 * q)
+    u16::from(symbol / 2) << (4 * q)
 }
 
 // Adds the parts of row q. It goes over one cell more than there are ranks, so that the loop has 64 turns.
-fn add_row<'a>(parts: &'a mut Parts, symbols: &'a Symbols, q: usize)
+fn add_row(parts: &mut Parts, symbols: &Symbols, q: usize)
     requires { (q < 3) × (length parts.old ≡ 64) }
     ensures { (length parts.new ≡ 64) × RowAdded symbols.now q parts.old parts.new }
 {
-    let mut j = 0;
-    while j < 64 {
-        parts[j] = parts[j] ^ moved(symbols[q * 63 + j], q);
-        j += 1;
+    for j in 0..64 {
+        parts[j] ^= moved(symbols[q * 63 + j], q);
     }
 }
 
@@ -36,10 +34,8 @@ pub fn parts_of(symbols: &Symbols, told: usize) -> Parts
     ensures { PartsOf symbols.now told result }
 {
     let mut parts = [0u16; 64];
-    let mut q = 0;
-    while q < told {
+    for q in 0..told {
         add_row(&mut parts, symbols, q);
-        q += 1;
     }
     parts
 }
@@ -50,10 +46,8 @@ pub fn base_part(base: [u8; 6], told: usize) -> u16
     ensures { result ≡ part_over (λ q. get_or base q 0) told }
 {
     let mut part: u16 = 0;
-    let mut q = 0;
-    while q < told {
-        part = part ^ moved(base[q], q);
-        q += 1;
+    for q in 0..told {
+        part ^= moved(base[q], q);
     }
     part
 }

@@ -10,6 +10,7 @@ use Rattle.field.specs.Field.{length_of}
 use Rattle.field.specs.Laws.{Laws}
 use Rattle.field.proofs.FieldLaws.{laws}
 use Rattle.codes.proofs.ShapeLaws.{length_small, roots_fit}
+use Rattle.words.specs.Packing.{unpacked}
 use Rattle.codes.specs.Codeword.{bit_of, word_of}
 use Rattle.codes.specs.Code.{Known}
 use Rattle.codes.specs.Lagrange.{Places, cell}
@@ -18,8 +19,7 @@ use Rattle.codes.proofs.ShortForm.{cell_is_short}
 use Rattle.codes.proofs.WordSteps.{word_cong}
 use Rattle.soft.specs.Value.{hard}
 use Rattle.soft.specs.Sorted.{Sorted}
-use Rattle.search.specs.Plan.{Fits, Prepares}
-use Rattle.words.specs.Packing.{unpacked}
+use Rattle.search.specs.Plan.{Plan, Fits, Prepares}
 use Rattle.search.proofs.BestIsNearest.{hard_lt}
 use Rattle.ranks.specs.Places.{place_in}
 use Rattle.received.specs.Receives.{Receives}
@@ -27,8 +27,7 @@ use Rattle.ranks.specs.Ordered.{Ordered}
 use Rattle.ranks.specs.declared.Position.{Position}
 use Rattle.received.specs.declared.Received.{Received}
 use Rattle.ranks.proofs.SortedOrder.{sorted_order}
-use Rattle.prepare.specs.declared.Prepared.{Prepared}
-use Rattle.prepare.specs.PlanOf.{plan_of}
+use Rattle.prepare.specs.Planned.{planned}
 use Rattle.prepare.specs.declared.by_rank.ByRank.{ByRank}
 use Rattle.prepare.specs.Inner.ByRank.{Gathers, ranked}
 use Rattle.table.specs.Table.{Cells}
@@ -43,8 +42,22 @@ places_each m n a c long soft r got order o =
     let small : n ≤ 63 = omega (arith, length_small m a c) in
     subst (λ (u : ℕ). Places m u (place_in order)) (sym long) (sorted_order m soft r order got n long small o).order.places
 
+-- what a prepared word has, before it is known to be in its ranges
+pub record Fields : Type 0 where
+  pub size : ℕ
+  pub rows : ℕ
+  pub hards : List ℕ
+  pub sides : ℕ
+  pub base : List ℕ
+  pub order : List Position
+  pub weight : List ℕ
+  pub symbols : List ℕ
+
+abbrev pub plan_with : Fields → Plan
+plan_with p = planned p.size p.rows p.hards p.sides p.base p.order p.weight p.symbols
+
 -- the parts, as the inner functions make them: what is by rank is made on the way
-pub record Ingredients (m t n : ℕ) (r : Received) (b : ByRank) (p : Prepared) : Type 0 where
+pub record Ingredients (m t n : ℕ) (r : Received) (b : ByRank) (p : Fields) : Type 0 where
   pub size : p.size ≡ length_of m - 2 * t
   pub rows : p.rows ≡ 2 * t
   pub hards : unpacked p.hards 8 ≡ r.hards
@@ -56,7 +69,7 @@ pub record Ingredients (m t n : ℕ) (r : Received) (b : ByRank) (p : Prepared) 
   pub base : RowSums p.symbols b.bits p.size p.base
 
 module _ (m t : ℕ) (known : Known m t) (n : ℕ) (long : n ≡ length_of m) (soft : List ℤ) (short : length soft ≤ length_of m)
-    (r : Received) (got : Receives soft r) (b : ByRank) (p : Prepared) (given : Ingredients m t n r b p) where
+    (r : Received) (got : Receives soft r) (b : ByRank) (p : Fields) (given : Ingredients m t n r b p) where
   abbrev L : ℕ
   L = length_of m
 
@@ -115,7 +128,7 @@ module _ (m t : ℕ) (known : Known m t) (n : ℕ) (long : n ≡ length_of m) (s
   weight_at : (i : ℕ) → i < L → get_or p.weight i 0 ≡ get_or r.reliability (R i) 0
   weight_at i l = ap (λ (u : List ℕ). get_or u i 0) made.weight ∙ made.ranks.weight i l
 
-  plan_prepares : Prepares m 1 (2 * t) soft (plan_of p)
+  plan_prepares : Prepares m 1 (2 * t) soft (plan_with p)
   plan_prepares = record {
     size = made.size;
     rows = made.rows;
@@ -130,7 +143,7 @@ module _ (m t : ℕ) (known : Known m t) (n : ℕ) (long : n ≡ length_of m) (s
     column = cell_at;
   }
 
-  plan_fits : Fits (plan_of p)
+  plan_fits : Fits (plan_with p)
   plan_fits = record {
     sizes = omega (arith, small, made.size, known.t_low);
     rows = omega (arith, made.rows, known.t_high);
@@ -143,5 +156,5 @@ module _ (m t : ℕ) (known : Known m t) (n : ℕ) (long : n ≡ length_of m) (s
         omega (arith, got.small (R i) (made.order.small i));
   }
 
-  pub word_prepared : Prepares m 1 (2 * t) soft (plan_of p) × Fits (plan_of p)
+  pub word_prepared : Prepares m 1 (2 * t) soft (plan_with p) × Fits (plan_with p)
   word_prepared = (plan_prepares, plan_fits)

@@ -5,8 +5,7 @@ use mathlib.Core.List.{List}
 use Prim.Native.Nat.{ℕ, ◌+◌, ◌-◌, ◌*◌, ◌/◌, ◌%◌, ◌^◌, ◌<◌, ◌≤◌}
 use native.Mathlib.Nat.{mod-lt}
 use native.Mathlib.Omega.{arith}
-use lib.Bits.{bit_and, and_le_l}
-use lib.Count.{count_trailing_zeros}
+use lib.Bits.{and_le_l}
 use lib.Dec.{T}
 use lib.ListN.{length, get_or}
 use lib.Pow.{pow_pos, field, mod-mod-pow}
@@ -20,8 +19,9 @@ use Rattle.codes.proofs.WordLaws.{bit_shift}
 use Rattle.search.specs.Search.{symbol}
 use Rattle.search.proofs.SymbolLaws.{symbol_bits}
 use Rattle.search.proofs.BitSumLaws.{xor_none}
-use Rattle.search.proofs.LowestBit.{turn_xor}
+use Rattle.search.proofs.LowestBit.{turn_low, turn_xor}
 use Rattle.search.proofs.RankBits.{xor_bits_sum}
+use Rattle.prepare.specs.Ones.{Took}
 use Rattle.prepare.specs.Inner.RowSums.{AddsColumn, row_sum, RowSums}
 use Rattle.table.proofs.StoreLaws.{zeros, zeros_at}
 
@@ -58,20 +58,23 @@ module _ (symbols : List ℕ) (bits size : ℕ) where
       })
 
   -- one bit less is left
-  pub summed_more : (sums next : List ℕ) (rest : ℕ) → 0 < rest → size ≤ 63 → Summed sums rest
-      → AddsColumn (count_trailing_zeros 64 rest) symbols sums next
-      → Summed next (bit_and rest (rest - 1))
-  unfolding row_sum
-  summed_more sums next rest some fit s add = record {
-    full = add.full;
-    low = omega (arith, s.low, and_le_l rest (rest - 1));
-    left = λ q l.
-        let x = get_or symbols (q * 63 + count_trailing_zeros 64 rest) 0 in
-        let r = row_sum symbols rest size q in
-        ap₂ ◌⊕◌ (add.sums q l) (turn_xor 64 size rest some s.low (omega arith) (λ j. get_or symbols (q * 63 + j) 0))
-        ∙ xor_swap (get_or sums q 0) x r x ∙ ap (λ (u : ℕ). get_or sums q 0 ⊕ r ⊕ u) (xor_self x) ∙ xor_zero (get_or sums q 0 ⊕ r)
-        ∙ s.left q l;
-  }
+  module _ (sums : List ℕ) (rest j less : ℕ) (t : Took rest j less) (fit : size ≤ 63) (s : Summed sums rest) where
+    pub summed_low : j < size
+    summed_low = rw t.lowest (turn_low 64 size rest t.some s.low (omega arith))
+
+    pub summed_more : (next : List ℕ) → AddsColumn j symbols sums next → Summed next less
+    unfolding row_sum
+    summed_more next add = record {
+      full = add.full;
+      low = omega (arith, s.low, t.left, and_le_l rest (rest - 1));
+      left = λ q l.
+          let x = get_or symbols (q * 63 + j) 0 in
+          let r = row_sum symbols rest size q in
+          ap₂ ◌⊕◌ (add.sums q l)
+          (rw (t.left, t.lowest) (turn_xor 64 size rest t.some s.low (omega arith) (λ i. get_or symbols (q * 63 + i) 0)))
+          ∙ xor_swap (get_or sums q 0) x r x ∙ ap (λ (u : ℕ). get_or sums q 0 ⊕ r ⊕ u) (xor_self x) ∙ xor_zero (get_or sums q 0 ⊕ r)
+          ∙ s.left q l;
+    }
 
   pub summed_all : (sums : List ℕ) (rest : ℕ) → rest ≡ 0 → Summed sums rest → RowSums symbols bits size sums
   unfolding row_sum

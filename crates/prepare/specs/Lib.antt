@@ -1,2 +1,4 @@
+pub mod Ones
+pub mod Planned
 pub mod PlanOf
 pub mod Inner

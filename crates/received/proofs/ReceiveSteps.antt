@@ -6,16 +6,17 @@
 --   all_in                  the reliabilities are those of all positions once all values are in
 --   received                the values are received with both
 -- Assumes nothing.
-use mathlib.Core.Path.{◌≡◌, refl, sym, ap, ap₂, ◌∙◌}
+use mathlib.Core.Path.{◌≡◌, sym, ap, ap₂, ◌∙◌}
 use mathlib.Core.Logic.{◌≢◌, ⊎_elim, by_cases}
-use mathlib.Core.List.{List, [], ◌∷◌}
-use Prim.Native.Nat.{ℕ, zero, suc, ◌+◌, ◌-◌, ◌*◌, ◌^◌, ◌<◌, ◌≤◌}
-use native.Mathlib.Nat.{eq-or-lt_of_le, not-suc-le-zero, le_of_suc-le-suc}
+use mathlib.Core.List.{List}
+use Prim.Native.Nat.{ℕ, ◌+◌, ◌-◌, ◌*◌, ◌^◌, ◌<◌, ◌≤◌}
+use native.Mathlib.Nat.{eq-or-lt_of_le}
 use native.Mathlib.Decide.{dec_lt, ℕ_discrete}
 use native.Mathlib.Omega.{arith}
 use lib.IntN.{ℤ, pos, negsuc, nat_abs}
 use lib.ListN.{length, get_or, set, replicate, length-set, length-replicate, get_or-replicate}
 use lib.Seq.{get_or-set_same, get_or-set_other}
+use Rattle.std.proofs.lemmas.List.{get_or_default}
 use Rattle.codes.specs.Codeword.{word_of}
 use Rattle.soft.specs.Value.{soft_at, hard_of, hard, reliability}
 use Rattle.soft.proofs.ValueLaws.{hard_unsent, reliability_unsent}
@@ -31,21 +32,15 @@ hard_bit : (soft : List ℤ) (p : ℕ) → hard soft p < 2
 unfolding hard
 hard_bit soft p = hard_of_bit (soft_at soft p)
 
--- inside a list the default does not matter
-default_unused : (l : List ℤ) (i : ℕ) (d e : ℤ) → i < length l → get_or l i d ≡ get_or l i e
-default_unused [] i d e h = absurd (not-suc-le-zero h)
-default_unused (x ∷ l) zero d e h = refl
-default_unused (x ∷ l) (suc i) d e h = default_unused l i d e (le_of_suc-le-suc h)
-
 module _ (soft : List ℤ) where
   -- what a value that was received is to the definitions
   hard_sent : (p : ℕ) (v : ℤ) → p < length soft → v ≡ get_or soft p (pos 0) → hard_of v ≡ hard soft p
   unfolding hard soft_at
-  hard_sent p v l e = ap hard_of (e ∙ default_unused soft p (pos 0) (pos 127) l)
+  hard_sent p v l e = ap hard_of (e ∙ get_or_default soft p (pos 0) (pos 127) l)
 
   reliability_sent : (p : ℕ) (v : ℤ) → p < length soft → v ≡ get_or soft p (pos 0) → nat_abs v ≡ reliability soft p
   unfolding reliability soft_at
-  reliability_sent p v l e = ap nat_abs (e ∙ default_unused soft p (pos 0) (pos 127) l)
+  reliability_sent p v l e = ap nat_abs (e ∙ get_or_default soft p (pos 0) (pos 127) l)
 
   -- the hard decisions from p on are in
   abbrev pub HardsFrom : ℕ → ℕ → Type 0

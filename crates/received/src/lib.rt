@@ -1,7 +1,7 @@
 // Hard decisions and reliabilities: of a value, and of all the values that were received.
 #![tactic(auto)]
 
-ghost use Rattle.std.specs.Prelude.{◌≡◌, ◌≤◌, length, nat_abs};
+ghost use Rattle.std.specs.Prelude.{◌≡◌, ◌≤◌, length};
 ghost use Rattle.codes.specs.Codeword.{word_of};
 ghost use Rattle.soft.specs.Value.{hard_of, hard};
 ghost use Rattle.received.specs.Receives.{Receives};
@@ -19,14 +19,7 @@ pub struct Received {
 pub fn hard_decision(v: i8) -> u8
     ensures { result ≡ hard_of v }
 {
-    if v < 0 { 1 } else { 0 }
-}
-
-// The size of a value. -128 has no negation in eight bits, so below 0 it is one more than the value that is negated.
-pub fn size_of(v: i8) -> u8
-    ensures { (result ≡ nat_abs v) × (result ≤ 128) }
-{
-    if v < 0 { (-(v + 1)) as u8 + 1 } else { v as u8 }
+    u8::from(v < 0)
 }
 
 // The hard decisions as a word, from the last down.
@@ -35,24 +28,21 @@ fn hards_of(soft: &[i8]) -> u64
     ensures { result ≡ word_of (length soft.now) (hard soft.now) }
 {
     let mut hards: u64 = 0;
-    let mut p = soft.len();
-    while 0 < p {
-        p -= 1;
-        hards = hards * 2 + hard_decision(soft[p]) as u64;
+    for v in soft.iter().rev() {
+        hards = hards * 2 + u64::from(hard_decision(*v));
     }
     hards
 }
 
-// The reliability of each position; one past the values is unsent. A loop of its own, which is compiled to sixteen values a turn.
+// The reliability of each position: the size of its value, 128 for -128; one past the values is unsent. A loop of its own, which is
+// compiled to sixteen values a turn.
 fn reliabilities_of(soft: &[i8]) -> [u8; 63]
     requires { length soft.now ≤ 63 }
     ensures { Reliabilities soft.now result }
 {
     let mut reliability = [127u8; 63];
-    let mut p = 0;
-    while p < soft.len() {
-        reliability[p] = size_of(soft[p]);
-        p += 1;
+    for (p, v) in soft.iter().enumerate() {
+        reliability[p] = v.unsigned_abs();
     }
     reliability
 }

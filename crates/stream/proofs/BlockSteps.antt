@@ -27,8 +27,8 @@ use Rattle.lines.specs.declared.phase.Phase.{Phase}
 use Rattle.stream.proofs.PutLaws.{put_within, put_prints, put_after}
 use Rattle.lines.proofs.BlockLaws.{says_append, after_append, says_piece, after_piece, says_line, after_line}
 
-pub record Turned (m : Memory) (block before : List ℕ) (s : State) (line out : List ℕ) (at wrote end : ℕ) : Type 0 where
-  pub found : Found block at end
+pub record Turned (m : Memory) (block before : List ℕ) (s : State) (line out : List ℕ) (at wrote : ℕ) : Type 0 where
+  pub within : at ≤ length block
   pub ready : Ready s line
   pub remembers : memory_of s line ≡ after_block m (take at block)
   pub writes : Put (block_says m (take at block)) before wrote out
@@ -72,8 +72,8 @@ answer_short {phase} {text} at out {r} {piece} a same =
           (at + 64 - at) (drop at out),
     )
 
-module _ (m : Memory) (block before : List ℕ) (s : State) (line out : List ℕ) (at wrote end : ℕ)
-    (k : Turned m block before s line out at wrote end) where
+module _ (m : Memory) (block before : List ℕ) (s : State) (line out : List ℕ) (at wrote : ℕ)
+    (k : Turned m block before s line out at wrote) where
   says_more : (piece : List ℕ) → block_says m (take at block ++ piece) ≡ block_says m (take at block) ++ block_says (memory_of s line) piece
   says_more piece =
       says_append m (take at block) piece ∙ ap (λ (n : Memory). block_says m (take at block) ++ block_says n piece) (sym k.remembers)
@@ -81,17 +81,16 @@ module _ (m : Memory) (block before : List ℕ) (s : State) (line out : List ℕ
   after_more : (piece : List ℕ) → after_block m (take at block ++ piece) ≡ after_block (memory_of s line) piece
   after_more piece = after_append m (take at block) piece ∙ ap (λ (n : Memory). after_block n piece) (sym k.remembers)
 
-  pub line_more : end < length block → (r : Answered) (line' piece : List ℕ) (end' : ℕ)
+  pub line_more : (end : ℕ) → Found block at end → end < length block → (r : Answered) (line' piece : List ℕ)
       → Finishes (memory_of s line) (between at end block) (take (wrote + 64 - wrote) (drop wrote out)) r piece
-      → length line' ≡ length line → length piece ≡ length (take (wrote + 64 - wrote) (drop wrote out)) → Found block (end + 1) end'
+      → length line' ≡ length line → length piece ≡ length (take (wrote + 64 - wrote) (drop wrote out))
       → Turned m block before (record { phase = r.phase; held = 0 }) line' (put_mid wrote (wrote + 64 - wrote) out piece) (end + 1)
-      (wrote + r.wrote) end'
-  line_more h r line' piece end' a l q g =
-      let f = k.found in
+      (wrote + r.wrote)
+  line_more end f h r line' piece a l q =
       let short = held_short s line k.ready in
       let none = found_none block at end f in
       record {
-        found = g;
+        within = omega arith;
         ready = record { held = omega arith; size = l ∙ k.ready.size };
         remembers =
             ap (λ (p : Phase). record { phase = p; text = [] }) a.next
@@ -106,14 +105,12 @@ module _ (m : Memory) (block before : List ℕ) (s : State) (line out : List ℕ
         enough = k.enough;
       }
 
-  pub rest_held : length block ≤ end → (r : ℕ) (line' : List ℕ) → Holds line s.held (between at (length block) block) r line'
+  pub rest_held : Found block at (length block) → (r : ℕ) (line' : List ℕ) → Holds line s.held (between at (length block) block) r line'
       → Steps m block before (record { state = record { phase = s.phase; held = r }; wrote = wrote }) line' out
-  rest_held h r line' t =
-      let f = k.found in
-      let all : end ≡ length block = omega (arith, f.within) in
-      let none : NoNewline (between at (length block) block) = rw all at (found_none block at end f) in
+  rest_held f r line' t =
+      let none = found_none block at (length block) f in
       let whole : block ≡ take at block ++ between at (length block) block =
-      sym (take_all (length block) block (omega arith)) ∙ rw all at (found_up_to block at end f)
+      sym (take_all (length block) block (omega arith)) ∙ found_up_to block at (length block) f
       in
       record {
         remembers =

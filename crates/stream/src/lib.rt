@@ -7,13 +7,14 @@ ghost use Rattle.lines.specs.Memory.{end_says};
 ghost use Rattle.stream.specs.Stepped.{Ready, memory_of, Begins, Prints, Steps};
 ghost use Rattle.stream.specs.Inner.Finished.{Finishes};
 
-use crate::text::{find_newline, hold};
+use crate::text::{find_newline, hold, whole};
 use lines::phase;
 use lines::phase::{Answered, Phase};
 
 pub mod text; // where a line ends, and the bytes of one that has not ended
 
 // What is remembered between blocks, beside the lent 513 bytes that hold the unfinished line: what is awaited, and how many bytes are held.
+// The bytes are no field, and `Ready` no invariant: `ended` asks neither, and that `step` and `end` meet their contracts are theorems.
 #[derive(Clone, Copy)]
 pub struct State {
     pub phase: Phase,
@@ -44,26 +45,16 @@ pub fn start() -> State
 pub fn ended(state: State) -> bool
     ensures { result ≡ is_ended state.phase }
 {
-    let phase = state.phase;
-    match phase {
-        Phase::Ended => true,
-        Phase::First => false,
-        Phase::Words(_) => false,
-    }
+    matches!(state.phase, Phase::Ended)
 }
 
-// A line ends with the piece: its answer. Where nothing is held the piece is the whole line, and is not copied.
+// A line ends with the piece: its answer.
 fn finish(state: State, line: &mut [u8], piece: &[u8], out: &mut [u8]) -> Answered
     requires ready { Ready state line.old }
     requires in_bounds { 64 ≤ length out.old }
     ensures { Finishes (memory_of state line.old) piece.now out.old result out.new }
 {
-    let phase = state.phase;
-    if state.held == 0 {
-        return phase::answer(phase, piece, out);
-    }
-    let held = hold(line, state.held, piece);
-    phase::answer(phase, &line[..held], out)
+    phase::answer(state.phase, whole(line, state.held, piece), out)
 }
 
 // Takes a whole block, and writes the answers to all lines that end in it.
@@ -76,21 +67,17 @@ pub fn step(state: State, line: &mut [u8], block: &[u8], out: &mut [u8]) -> Step
     let mut current = state;
     let mut at = 0;
     let mut wrote = 0;
-    let mut end = find_newline(block, at);
-    while end < block.len() {
+    while let Some(end) = find_newline(block, at) {
         let room = wrote + ANSWER;
         let answered = finish(current, line, &block[at..end], &mut out[wrote..room]);
         let phase = answered.phase;
         current = State { phase, held: 0 };
         wrote += answered.wrote;
         at = end + 1;
-        end = find_newline(block, at);
     }
     let held = hold(line, current.held, &block[at..]);
-    let phase = current.phase;
-    let after = State { phase, held };
     Stepped {
-        state: after,
+        state: State { held, ..current },
         wrote,
     }
 }

@@ -6,6 +6,7 @@ use mathlib.Core.List.{List}
 use Prim.Native.Nat.{ℕ, zero, suc, ◌+◌, ◌-◌, ◌*◌, ◌/◌, ◌%◌, ◌<◌, ◌≤◌}
 use native.Mathlib.Nat.{mod-add-div, mod-lt}
 use native.Mathlib.Omega.{arith}
+use lib.ListN.{get_or}
 use Rattle.field.specs.Field.{◌⊕◌, times, alpha_to, length_of}
 use Rattle.field.specs.Laws.{Laws}
 use Rattle.field.proofs.XorLaws.{xor_self, xor_comm}
@@ -14,7 +15,24 @@ use Rattle.codes.specs.Lagrange.{Places, short_cell}
 use Rattle.codes.proofs.RootLaws.{pw_lt, pw_pos, pw_round, differ}
 use Rattle.codes.proofs.ShortQuotient.{grown, short_quotient}
 use Rattle.exponents.specs.Exponent.{Zech, or_one, one_more}
-use Rattle.table.specs.Exponents.{outside_of, zech_at, exponent_of, cell_exponent}
+use Rattle.table.specs.Exponents.{zech_at, exponent_of, cell_exponent}
+
+-- exponents go by the places of the rows alone
+module _ (n : ℕ) (zech : List ℕ) (U V : ℕ → ℕ) where
+  exponents_same : (k : ℕ) → ((v : ℕ) → v < k → U v ≡ V v) → (p : ℕ) → exponent_of n zech U k p ≡ exponent_of n zech V k p
+  unfolding exponent_of
+  exponents_same zero same p = refl
+  exponents_same (suc k) same p =
+      ap₂ (λ (x y : ℕ). (x + y) % n) (exponents_same k (λ v l. same v (omega arith)) p)
+      (ap (λ (u : ℕ). get_or zech (n - u + p) 0) (same k (omega arith)))
+
+  pub cells_same : (rows : ℕ) → ((v : ℕ) → v < rows → U v ≡ V v) → (o p : ℕ) → o < rows
+      → cell_exponent n zech U rows o p ≡ cell_exponent n zech V rows o p
+  unfolding cell_exponent
+  cells_same rows same o p l =
+      ap₂ (λ (x y : ℕ). x + n - y % n) (exponents_same rows same p)
+      (ap₂ ◌+◌ (ap (exponent_of n zech U rows) (same o l) ∙ exponents_same rows same (V o))
+      (ap (λ (u : ℕ). get_or zech (n - u + p) 0) (same o l)))
 
 module _ (m : ℕ) (F : Laws m) where
   open F use {one, over_xor, pw_add, pw_n, n_pos}
@@ -56,51 +74,40 @@ module _ (m : ℕ) (F : Laws m) where
       let e : n - q + q ≡ n = omega arith in
       ap (λ (u : ℕ). or_one (1 ⊕ u)) (ap (alpha_to m) e ∙ pw_n) ∙ ap or_one (xor_self 1)
 
-  module _ (size rows : ℕ) (zech : List ℕ) (place : ℕ → ℕ) (rule : Zech m zech) (each : Places m n place) (all : size + rows ≡ n)
-      (short : n ≤ 63) where
-    abbrev U : ℕ → ℕ
-    U = outside_of size place
-
+  module _ (rows : ℕ) (zech : List ℕ) (U : ℕ → ℕ) (rule : Zech m zech) (outside : Places m rows U) (short : n ≤ 63) where
     -- 1 + a^(p-u) for the place u of row v, but where that is 0
     abbrev B : ℕ → ℕ → ℕ
-    B p v = alpha_to m (zech_at n size zech place v p)
+    B p v = alpha_to m (zech_at n zech U v p)
 
     abbrev E : ℕ → ℕ → ℕ
-    E = exponent_of n size zech place
+    E = exponent_of n zech U
 
     inside : (v : ℕ) → v < rows → U v < n
-    inside v l = each.inside (size + v) (omega arith)
+    inside v l = outside.inside v l
 
     zech_is : (p v : ℕ) → p < n → v < rows → B p v ≡ one_more m (n - U v + p)
     zech_is p v hp hv = (rule (n - U v + p) (omega arith)).1
-
-    outside : Places m rows U
-    outside = record {
-      inside = inside;
-      apart = λ i j hi hj e. let s = each.apart (size + i) (size + j) (omega arith) (omega arith)
-          e in omega arith;
-    }
 
     exponent_grown : (k p : ℕ) → alpha_to m (E k p) ≡ grown m (B p) (alpha_to m (p * 1)) k
     unfolding exponent_of grown
     exponent_grown zero p = ap (alpha_to m) (omega arith)
     exponent_grown (suc k) p =
-        pw_reduced (E k p + zech_at n size zech place k p) ∙ pw_add (E k p) (zech_at n size zech place k p)
+        pw_reduced (E k p + zech_at n zech U k p) ∙ pw_add (E k p) (zech_at n zech U k p)
         ∙ ap (λ (u : ℕ). times m u (B p k)) (exponent_grown k p)
 
     -- the exponent of a cell: a difference that n keeps from going below 0
     pub cell_power : (o p : ℕ) → o < rows → p < n → ((v : ℕ) → v < rows → v ≢ o → p ≢ U v)
-        → alpha_to m (cell_exponent n size zech place rows o p) ≡ short_cell m 1 rows U o p
+        → alpha_to m (cell_exponent n zech U rows o p) ≡ short_cell m 1 rows U o p
     unfolding cell_exponent
     cell_power o p ho hp other =
         let own = E rows (U o) in
-        let z = zech_at n size zech place o p in
+        let z = zech_at n zech U o p in
         let y = (own + z) % n in
         let w = E rows p + n - y in
         let low : y < n = mod-lt (own + z) n_pos in
         let back : w + y ≡ E rows p + n = omega arith in
         sym (short_quotient m F 1 rows U outside B
-        (λ p v. (pw_lt m F (zech_at n size zech place v p), pw_pos m F (zech_at n size zech place v p)))
+        (λ p v. (pw_lt m F (zech_at n zech U v p), pw_pos m F (zech_at n zech U v p)))
         (λ o l. zech_is (U o) o (inside o l) l ∙ one_more_none (U o) (omega (arith, inside o l)))
         (λ p v hp hv ne. sum_of_powers p (U v) hp (inside v hv) ne ∙ ap (times m (alpha_to m (U v))) (sym (zech_is p v hp hv)))
         o ho p (alpha_to m w) hp other (pw_lt m F w)

@@ -15,10 +15,10 @@ pub record PutsRow (n from own q : ℕ) (zech list before after : List ℕ) : Ty
   pub row : (p : ℕ) → p < 64 → get_or after (q * 64 + p) 0 ≡ get_or list p 0 + n - (own + get_or zech (from + p) 0) % n
   pub rest : (i : ℕ) → i < q * 64 → get_or after i 0 ≡ get_or before i 0
 
-pub record CellExponents (n size : ℕ) (zech : List ℕ) (place : ℕ → ℕ) (rows k : ℕ) (l : List ℕ) : Type 0 where
+pub record CellExponents (n : ℕ) (zech : List ℕ) (U : ℕ → ℕ) (rows k : ℕ) (l : List ℕ) : Type 0 where
   pub full : length l ≡ 384
   pub below : Below 128 384 l
-  pub right : (o p : ℕ) → o < k → p < n → get_or l (o * 64 + p) 0 ≡ cell_exponent n size zech place rows o p
+  pub right : (o p : ℕ) → o < k → p < n → get_or l (o * 64 + p) 0 ≡ cell_exponent n zech U rows o p
 
 pub record PutsColumn (p j : ℕ) (powers exponents before after : List ℕ) : Type 0 where
   pub full : length after ≡ 378

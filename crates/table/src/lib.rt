@@ -12,51 +12,35 @@ use ranks::{Position, Rank};
 
 mod products; // products as sums of exponents
 
+use products::Logs;
+
 // The table: what a 1 at rank j adds to the symbol of row q, at q * 63 + j.
 pub type Symbols = [u8; 378];
 
 // Row q's exponents, of every position: n keeps the difference from going below 0, so that it is below 2n. The row's place has the
 // exponent `own`, and `from` is where its run of Zech's logarithms starts.
-fn put_row(
-    zech: &[u8; 128],
-    list: &[u8; 64],
-    n: u8,
-    from: usize,
-    own: u8,
-    q: usize,
-    rows: &mut [u8; 384],
-)
-    requires n_bound { (n ≤ 63) × (from ≤ 63) × (own < n) × (q < 6) × Below n 128 zech.now × Below n 64 list.now }
+fn put_row(logs: Logs, list: &[u8; 64], from: usize, own: u8, q: usize, rows: &mut [u8; 384])
+    requires n_bound { (from ≤ 63) × (own < logs.n) × (q < 6) × Below logs.n 64 list.now }
     requires rows_len { (length rows.old ≡ 384) × Below 128 384 rows.old }
-    ensures { PutsRow n from own q zech.now list.now rows.old rows.new }
+    ensures { PutsRow logs.entry.n from own q logs.entry.zech.now list.now rows.old rows.new }
 {
-    let mut p = 0;
-    while p < 64 {
-        let less = products::plus(n, own, zech[from + p]);
-        rows[q * 64 + p] = list[p] + n - less;
-        p += 1;
+    for p in 0..64 {
+        let less = logs.plus(own, logs.zech[from + p]);
+        rows[q * 64 + p] = list[p] + logs.n - less;
     }
 }
 
-// All rows.
-fn cell_exponents(
-    zech: &[u8; 128],
-    order: [Position; 63],
-    n: usize,
-    size: usize,
-    rows: usize,
-) -> [u8; 384]
-    requires { Outside n size rows (place_in order) × Below n 128 zech.now }
-    ensures { CellExponents n size zech.now (place_in order) rows rows result }
+// All rows, one for each place outside.
+fn cell_exponents(logs: Logs, outside: &[Position]) -> [u8; 384]
+    requires { Outside logs.n (length outside.now) (place_in outside.now) }
+    ensures { CellExponents logs.entry.n logs.entry.zech.now (place_in outside.now) (length outside.now) (length outside.now) result }
 {
     let mut table = [0u8; 384];
-    let list = products::of_positions(zech, order, n, size, rows);
-    let mut q = 0;
-    while q < rows {
-        let u = products::outside_at(order, size, q).0 as usize;
-        let own = list[u];
-        put_row(zech, &list, n as u8, n - u, own, q, &mut table);
-        q += 1;
+    let list = logs.of_positions(outside);
+    for (q, place) in outside.iter().enumerate() {
+        let own = list[usize::from(place.0)];
+        let from = usize::from(logs.n - place.0);
+        put_row(logs, &list, from, own, q, &mut table);
     }
     table
 }
@@ -73,16 +57,15 @@ fn put_column(
     ensures { PutsColumn position.0 rank.0 powers.now exponents.now
         table.old table.new }
 {
-    let p = position.0 as usize;
-    let j = rank.0 as usize;
-    let mut q = 0;
-    while q < 6 {
-        table[q * 63 + j] = powers[exponents[q * 64 + p] as usize];
-        q += 1;
+    let p = usize::from(position.0);
+    let j = usize::from(rank.0);
+    for q in 0..6 {
+        table[q * 63 + j] = powers[usize::from(exponents[q * 64 + p])];
     }
 }
 
-// All columns, from rank 0 on. Like `gather` it goes along the order itself, since a call of `position_at` would copy it at each turn.
+// All columns, from rank 0 on. The first `size` ranks are the reliable set, the `rows` after them the places outside: numbers beside the
+// order, which has the length of the longest word (fixed memory).
 pub fn symbol_table(m: u8, order: [Position; 63], n: usize, size: usize, rows: usize) -> Symbols
     requires { Numbered m n size rows (place_in order) }
     ensures { Cells m size rows (place_in order) result }
@@ -90,11 +73,15 @@ pub fn symbol_table(m: u8, order: [Position; 63], n: usize, size: usize, rows: u
     let mut table = [0u8; 378];
     let powers = exponents::powers(m);
     let zech = exponents::zech(m);
-    let exponents = cell_exponents(&zech, order, n, size, rows);
-    let mut j = 0;
-    while j < size {
-        put_column(&powers, &exponents, order[j], Rank(j as u8), &mut table);
-        j += 1;
+    let reliable = &order[..size];
+    let outside = &order[size..size + rows];
+    let logs = Logs {
+        n: n as u8,
+        zech: &zech,
+    };
+    let exponents = cell_exponents(logs, outside);
+    for (j, &position) in reliable.iter().enumerate() {
+        put_column(&powers, &exponents, position, Rank(j as u8), &mut table);
     }
     table
 }

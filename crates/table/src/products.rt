@@ -3,73 +3,62 @@
 // is known is compiled to steps of sixteen entries each.
 ghost use Rattle.std.specs.Prelude.{◌≡◌, ◌+◌, ◌%◌, ◌<◌, ◌≤◌, length};
 ghost use Rattle.ranks.specs.Places.{place_in};
-ghost use Rattle.table.specs.Exponents.{Below, outside_of, Outside, Positions, AddsRun, Exponents};
+ghost use Rattle.table.specs.Exponents.{Below, Outside, Positions, AddsRun, Exponents};
 
-use ranks::{Position, Rank, position_at};
+use ranks::Position;
 
-// The sum of two exponents.
-pub fn plus(n: u8, x: u8, y: u8) -> u8
-    requires { (n ≤ 63) × (x < n) × (y < n) }
-    ensures { (result ≡ (x + y) % n) × (result < n) }
-{
-    let sum = x + y;
-    if sum < n { sum } else { sum - n }
+// How exponents are added: there are n of them, and Zech's logarithms are among them.
+#[derive(Clone, Copy)]
+pub struct Logs<'a> {
+    pub n: u8,
+    pub zech: &'a [u8; 128],
+    ghost some: { 0 < n },
+    ghost short: { n ≤ 63 },
+    ghost below: { Below n 128 zech.now },
 }
 
-// The exponent of each position's own element, which is the position.
-fn positions(n: u8) -> [u8; 64]
-    requires { (0 < n) × (n ≤ 63) }
-    ensures { Positions n result }
-{
-    let mut list = [0u8; 64];
-    let mut p: u8 = 0;
-    while p < 64 {
-        if p < n {
-            list[p as usize] = p;
+impl<'a> Logs<'a> {
+    // The sum of two exponents.
+    pub fn plus(self, x: u8, y: u8) -> u8
+        requires { (x < self.n) × (y < self.n) }
+        ensures { (result ≡ (x + y) % self.entry.n) × (result < self.entry.n) }
+    {
+        let sum = x + y;
+        if sum < self.n { sum } else { sum - self.n }
+    }
+
+    // The exponent of each position's own element, which is the position.
+    fn positions(self) -> [u8; 64]
+        ensures { Positions self.entry.n result }
+    {
+        let mut list = [0u8; 64];
+        for p in 0..64 {
+            if p < self.n {
+                list[usize::from(p)] = p;
+            }
         }
-        p += 1;
+        list
     }
-    list
-}
 
-// Adds Zech's logarithms, from one of them on.
-fn add_run(zech: &[u8; 128], n: u8, from: usize, list: &mut [u8; 64])
-    requires n_bound { (n ≤ 63) × (from ≤ 63) × Below n 128 zech.now }
-    requires list_len { (length list.old ≡ 64) × Below n 64 list.old }
-    ensures { AddsRun n from zech.now list.old list.new }
-{
-    let mut p = 0;
-    while p < 64 {
-        list[p] = plus(n, list[p], zech[from + p]);
-        p += 1;
+    // Adds Zech's logarithms, from one of them on.
+    fn add_run(self, from: usize, list: &mut [u8; 64])
+        requires { (from ≤ 63) × (length list.old ≡ 64) × Below self.n 64 list.old }
+        ensures { AddsRun self.entry.n from self.entry.zech.now list.old list.new }
+    {
+        for p in 0..64 {
+            list[p] = self.plus(list[p], self.zech[from + p]);
+        }
     }
-}
 
-// The place outside that has row v: that of rank `size` + v.
-pub fn outside_at(order: [Position; 63], size: usize, v: usize) -> Position
-    requires { size + v < 63 }
-    ensures { result.0 ≡ outside_of size (place_in order) v }
-{
-    position_at(order, Rank((size + v) as u8))
-}
-
-// The exponent of each position p: that of a^p times 1 + a^(p-u) for each place u outside, but where that is 0.
-pub fn of_positions(
-    zech: &[u8; 128],
-    order: [Position; 63],
-    n: usize,
-    size: usize,
-    rows: usize,
-) -> [u8; 64]
-    requires { Outside n size rows (place_in order) × Below n 128 zech.now }
-    ensures { Exponents n size zech.now (place_in order) rows result }
-{
-    let mut list = positions(n as u8);
-    let mut v = 0;
-    while v < rows {
-        let place = outside_at(order, size, v);
-        add_run(zech, n as u8, n - place.0 as usize, &mut list);
-        v += 1;
+    // The exponent of each position p: that of a^p times 1 + a^(p-u) for each place u outside, but where that is 0.
+    pub fn of_positions(self, outside: &[Position]) -> [u8; 64]
+        requires { Outside self.n (length outside.now) (place_in outside.now) }
+        ensures { Exponents self.entry.n self.entry.zech.now (place_in outside.now) (length outside.now) result }
+    {
+        let mut list = self.positions();
+        for place in outside {
+            self.add_run(usize::from(self.n - place.0), &mut list);
+        }
+        list
     }
-    list
 }

@@ -1,10 +1,14 @@
 // A case and its answer.
 ghost use Rattle.std.specs.Prelude.{◌≤◌, length};
 
-use crate::printed::{put, put_shown, put_text};
-use crate::quoted;
+use crate::printed::{put, put_shown};
+use crate::quoted::{next_text, read};
+use cases::text::put_text;
 use input_lines::header::{Header, read_header};
 use lines::answer::{answer_header, answer_word};
+
+// The most bytes of a case, and of each of its texts.
+const LONGEST: usize = 1024;
 
 // What a header says, where words follow.
 fn put_header(h: Header) {
@@ -15,18 +19,18 @@ fn put_header(h: Header) {
 }
 
 fn answer_first(text: &[u8]) {
-    let h = read_header(text);
+    let header = read_header(text);
     let mut out = [0u8; 16];
-    let n = answer_header(h, &mut out);
-    if n == 0 {
-        put_header(h);
-        return;
+    let n = answer_header(header, &mut out);
+    match header {
+        Some(h) if n == 0 => put_header(h),
+        _ => put_shown(&out, n),
     }
-    put_shown(&out, n);
 }
 
+// The program answers no word line under a wrong header: here it stands for four zeros.
 fn answer_under(header: &[u8], text: &[u8]) {
-    let h = read_header(header);
+    let h = read_header(header).unwrap_or_default();
     let mut out = [0u8; 64];
     let n = answer_word(h, text, &mut out);
     put_shown(&out, n);
@@ -34,7 +38,7 @@ fn answer_under(header: &[u8], text: &[u8]) {
 
 // What all lines print, and what the end of the input adds. The step may print 64 bytes for each byte of its input.
 fn answer_input(text: &[u8])
-    requires { length text.now ≤ 1024 }
+    requires { length text.now ≤ LONGEST }
 {
     let mut line = [0u8; 513];
     let mut out = io::large_buffer();
@@ -44,48 +48,55 @@ fn answer_input(text: &[u8])
     put_shown(&out, added);
 }
 
-// A case with no kind of its own is a bad one.
-fn answer(kind: u8, text: &[u8], under: &[u8])
-    requires { length text.now ≤ 1024 }
-{
-    match kind {
-        b'h' => answer_first(text),
-        b'w' => answer_under(under, text),
-        b'i' => {
-            put_text(b"[");
-            answer_input(text);
-            put_text(b"]");
+// A case of each kind, with its texts as they are spelled.
+#[derive(Clone, Copy)]
+enum Case<'l> {
+    Header { text: &'l [u8] },
+    Word { text: &'l [u8], under: &'l [u8] },
+    Input { text: &'l [u8] },
+}
+
+// The kind of a case is its first letter. A bad case is none: its letter is another, a text of it is not closed, or it is too long.
+fn case_of(line: &[u8]) -> Option<Case<'_>> {
+    if LONGEST < line.len() {
+        return None;
+    }
+    let (text, behind) = next_text(line)?;
+    match line {
+        [b'h', ..] => Some(Case::Header { text }),
+        [b'w', ..] => {
+            let (under, _) = next_text(behind)?;
+            Some(Case::Word { text, under })
         }
-        _ => put_text(b"bad case"),
+        [b'i', ..] => Some(Case::Input { text }),
+        _ => None,
     }
 }
 
-// The kind of a case is its first letter, or 0 where its last text is not closed: a word line has two.
-fn kind_of(letter: u8, first: usize, second: usize, end: usize) -> u8 {
-    let last = if letter == b'w' { second } else { first };
-    if last < end { letter } else { 0 }
-}
-
-fn answer_texts(case: &[u8], letter: u8) {
-    let mut text = [0u8; 1024];
-    let mut under = [0u8; 1024];
-    let first = quoted::read(case, 0, &mut text);
-    let second = quoted::read(case, first.end, &mut under);
-    let kind = kind_of(letter, first.end, second.end, case.len());
-    let n = first.count;
-    let k = second.count;
-    answer(kind, &text[0..n], &under[0..k]);
+fn answer(case: Case) {
+    let mut space = [0u8; LONGEST];
+    match case {
+        Case::Header { text } => answer_first(read(text, &mut space)),
+        Case::Word { text, under } => {
+            let mut space_under = [0u8; LONGEST];
+            answer_under(read(under, &mut space_under), read(text, &mut space));
+        }
+        Case::Input { text } => {
+            put_text(b"[");
+            answer_input(read(text, &mut space));
+            put_text(b"]");
+        }
+    }
 }
 
 // Prints what stands behind a case: nothing, where it is a title.
-pub fn run(case: &[u8]) {
-    if case.len() == 0 {
-        return;
-    }
-    let letter = case[0];
-    if letter < b'a' {
+pub fn run(line: &[u8]) {
+    if !matches!(line, [(b'a'..), ..]) {
         return;
     }
     put_text(b": ");
-    answer_texts(case, letter);
+    match case_of(line) {
+        Some(case) => answer(case),
+        None => put_text(b"bad case"),
+    }
 }

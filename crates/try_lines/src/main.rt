@@ -16,36 +16,25 @@ mod printed; // what is printed
 mod quoted; // texts in brackets, and the bytes that they spell
 mod case; // a case and its answer
 
-use cases::scan::find;
-
-// Standard input.
-const STDIN_FILENO: i32 = 0;
+use cases::scan::split_once;
+use cases::text::{put_text, read_stored};
 
 // The case of a line stands behind its name, or is its own name.
 fn run_line(line: &[u8]) {
-    let name = find(line, 0, line.len(), b'|');
-    printed::put_text(&line[0..name]);
-    if name == line.len() {
-        case::run(line);
-        return;
-    }
-    let start = name + 1;
-    case::run(&line[start..]);
+    let (name, case) = split_once(line, b'|').unwrap_or((line, line));
+    put_text(name);
+    case::run(case);
 }
 
 fn each_line(stored: &[u8]) {
-    let mut at = 0;
-    while at < stored.len() {
-        let end = find(stored, at, stored.len(), b'\n');
-        run_line(&stored[at..end]);
-        printed::put_text(b"\n");
-        at = end + 1;
+    for line in stored.split_inclusive(|&b| b == b'\n') {
+        run_line(line.strip_suffix(b"\n").unwrap_or(line));
+        put_text(b"\n");
     }
 }
 
 // All lines together have at most 65,536 bytes: what is more is not run.
 fn main() {
     let mut space = io::large_buffer();
-    let n = io::read_full(STDIN_FILENO, &mut space);
-    each_line(&space[..n]);
+    each_line(read_stored(&mut space));
 }

@@ -8,104 +8,120 @@
 ghost use Rattle.std.specs.Prelude.{◌≤◌};
 
 use crate::compare::compare;
+use crate::output::Output;
 use drawn::drafts::{SentWord, chosen, sent_word};
-use drawn::kinds::{KINDS, random_word};
+use drawn::kinds::{Kind, random_word};
 use drawn::random::{drawn, next, other};
 use every_word::read_every_word;
 use exhaustive::roots::list_codewords;
 use exhaustive::sent::margin_of;
-use tally::{CODEWORDS, both, count_outcome, count_sent, put, put_tally};
+use exhaustive::setting::Setting;
+use std::fmt::Write;
+use tally::Tally;
 
 mod compare; // a call compared with the exhaustive search
+mod output; // what is printed
 
-// How many words are tried for each code, shortening and order. Of ten words six are random, one of each kind, and four are sent, two
-// with the wrong sum one below the bound and two at it.
-const WORDS: u64 = 400;
+// How a word is made.
+#[derive(Clone, Copy)]
+enum Making {
+    Random(Kind),
+    // sent, with the wrong sum so much below the bound
+    Sent { below: u64 },
+}
 
+// Of ten words six are random, one of each kind, and four are sent, two with the wrong sum one below the bound and two at it.
+const MAKINGS: [Making; 10] = [
+    Making::Random(Kind::Any),
+    Making::Random(Kind::Small),
+    Making::Random(Kind::Extreme),
+    Making::Random(Kind::Noisy),
+    Making::Random(Kind::NoisyTied),
+    Making::Random(Kind::NoisySmall),
+    Making::Sent { below: 0 },
+    Making::Sent { below: 1 },
+    Making::Sent { below: 0 },
+    Making::Sent { below: 1 },
+];
+
+// How many words are tried for each code, shortening and order.
+const WORDS: usize = 400;
+
+// What was counted so far, and the state of the numbers.
 #[derive(Clone, Copy)]
 struct Run {
-    tally: [u64; 13],
+    tally: Tally,
     seed: u64,
 }
 
-// A word of a kind, and the codeword that it was made of.
-fn drawn_word(list: &[u64], t: u16, s: u16, kind: u64, seed: u64) -> SentWord
-    requires { (t ≤ 3) × (s ≤ 15) }
-{
-    if KINDS <= kind {
-        return sent_word(list, t, s, kind % 2, seed);
-    }
-    let codeword = chosen(list, 0, drawn(seed));
-    SentWord {
-        word: random_word(kind, codeword, 15 - s as usize, next(seed)),
-        codeword,
-    }
-}
-
-fn word_case(run: Run, list: &[u64], t: u16, s: u16, order: u16, kind: u64) -> Run
-    requires { (t ≤ 3) × (s ≤ 15) }
-{
-    let seed = other(run.seed);
-    let sent = drawn_word(list, t, s, kind, seed);
-    let word = sent.word;
-    let outcome = compare(list, &word, t, s, order, (seed % 256) as u8);
-    let margin = margin_of(&word, sent.codeword, t, s, order);
-    let returned = both(!outcome.refused, outcome.word == sent.codeword);
-    let tally = run.tally;
-    let counted = count_outcome(tally, outcome, outcome.word >> (15 - s) != 0);
-    Run {
-        tally: count_sent(counted, margin, 0 < s, returned),
-        seed,
+// A word, and the codeword that it was made of.
+fn made_word(setting: Setting, making: Making, seed: u64) -> SentWord {
+    match making {
+        Making::Random(kind) => {
+            let codeword = chosen(setting.codewords, 0, drawn(seed));
+            SentWord {
+                word: random_word(kind, codeword, 15 - usize::from(setting.s), next(seed)),
+                codeword,
+            }
+        }
+        Making::Sent { below } => sent_word(setting, below, seed),
     }
 }
 
-fn each_word(start: Run, list: &[u64], t: u16, s: u16, order: u16) -> Run
-    requires { (t ≤ 3) × (s ≤ 15) }
-{
-    let mut run = start;
-    let mut i = 0;
-    while i < WORDS {
-        run = word_case(run, list, t, s, order, i % 10);
-        i += 1;
+impl Run {
+    fn try_word(&mut self, setting: Setting, making: Making) {
+        self.seed = other(self.seed);
+        let sent = made_word(setting, making, self.seed);
+        let outcome = compare(setting, &sent.word, (self.seed % 256) as u8);
+        self.tally.count_outcome(outcome);
+        if let Some(margin) = margin_of(setting, &sent.word, sent.codeword) {
+            self.tally
+                .count_sent(margin, 0 < setting.s, outcome.word == Some(sent.codeword));
+        }
     }
-    run
-}
 
-fn each_order(run: Run, list: &[u64], t: u16, s: u16) -> Run
-    requires { (t ≤ 3) × (s ≤ 15) }
-{
-    let zero = each_word(run, list, t, s, 0);
-    let one = each_word(zero, list, t, s, 1);
-    let two = each_word(one, list, t, s, 2);
-    each_word(two, list, t, s, 3)
+    fn try_words(&mut self, setting: Setting) {
+        for making in MAKINGS.iter().cycle().take(WORDS) {
+            self.try_word(setting, *making);
+        }
+    }
+
+    fn try_orders(&mut self, codewords: &[u64], t: u16, s: u16)
+        requires { s ≤ 15 }
+    {
+        for order in 0..=3 {
+            self.try_words(Setting {
+                codewords,
+                t,
+                s,
+                order,
+            });
+        }
+    }
 }
 
 // Every shortening of a code, which has k message bits.
-fn each_short(list: &[u64], t: u16, k: u16) -> [u64; 13]
-    requires { (t ≤ 3) × (k ≤ 15) }
+fn try_code(codewords: &[u64], t: u16, k: u16) -> Tally
+    requires { k ≤ 15 }
 {
     let mut run = Run {
-        tally: [0; 13],
+        tally: Tally::default(),
         seed: 88172645463325252,
     };
-    let mut s = 0;
-    while s < k {
-        run = each_order(run, list, t, s);
-        s += 1;
+    for s in 0..k {
+        run.try_orders(codewords, t, s);
     }
     run.tally
 }
 
 fn run_code(t: u16, k: u16)
-    requires { (t ≤ 3) × (1 ≤ k) × (k ≤ 15) }
+    requires { (1 ≤ k) × (k ≤ 15) }
 {
-    let mut space = [0u64; 2048];
-    let count = list_codewords(t, &mut space);
-    let mut tally = each_short(&space[..count], t, k);
-    tally[CODEWORDS] = count as u64;
-    put(b"t=", t as u64);
-    put_tally(&tally);
-    read_every_word(t, k);
+    let mut space = [0; 2048];
+    let codewords = list_codewords(t, &mut space);
+    let _ = writeln!(Output, "t={t}: codewords {}", codewords.len());
+    let _ = writeln!(Output, "{}", try_code(codewords, t, k));
+    let _ = writeln!(Output, "{}", read_every_word(t, k));
 }
 
 fn main() {

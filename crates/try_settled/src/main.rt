@@ -7,52 +7,37 @@
 // printed as it is.
 #![tactic(auto)]
 
-ghost use Rattle.std.specs.Prelude.{◌≡◌, ◌<◌, length};
-
 use crate::calls::{decode_line, encode_line, read_line};
-use cases::scan::after;
-use cases::text::put_text;
+use cases::text::{put_text, read_stored};
 
 mod calls; // the three calls
 
-// Standard input.
-const STDIN_FILENO: i32 = 0;
+// The most bytes of a call.
+const LONGEST: usize = 4096;
 
 // The first letter tells the calls apart. A call that is an example of the paper has a P and its number before it.
-fn answer(line: &[u8])
-    requires { 0 < length line.now }
-{
-    if 4096 < line.len() {
+fn answer(line: &[u8]) {
+    if LONGEST < line.len() {
         put_text(line);
         return;
     }
-    match line[0] {
-        b'#' => {}
-        b'e' => encode_line(line),
-        b'r' => read_line(line),
-        b'd' | b'P' => decode_line(line),
+    match line {
+        [b'#', ..] => {}
+        [b'e', ..] => encode_line(line),
+        [b'r', ..] => read_line(line),
+        [b'd' | b'P', ..] => decode_line(line),
         _ => put_text(line),
     }
 }
 
 fn answer_all(cases: &[u8]) {
-    let mut from = 0;
-    while from < cases.len() {
-        let next = after(cases, from, b'\n');
-        answer(&cases[from..next]);
-        from = next;
+    for line in cases.split_inclusive(|&b| b == b'\n') {
+        answer(line);
     }
 }
 
-// Twice the length of the cases.
-fn cases_space() -> [u8; 131072]
-    ensures { 131072 ≡ length result }
-{
-    [0; 131072]
-}
-
+// The space is twice the length of the cases.
 fn main() {
-    let mut cases = cases_space();
-    let count = io::read_full(STDIN_FILENO, &mut cases);
-    answer_all(&cases[..count]);
+    let mut space = [0; 131072];
+    answer_all(read_stored(&mut space));
 }

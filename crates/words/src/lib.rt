@@ -5,4 +5,4 @@ pub mod packing; // a word as bytes
 pub mod shape; // n, k and W
 
 pub use packing::{put_word, word_in};
-pub use shape::{bytes_of, dimension_of, length_of};
+pub use shape::{Code, Shortened};

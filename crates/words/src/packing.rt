@@ -8,11 +8,9 @@ pub fn put_word(word: u64, n: usize, buf: &mut [u8])
     ensures { buf.new ≡ packed word n ++ drop n buf.old }
 {
     let mut x = word;
-    let mut i = 0;
-    while i < n {
-        buf[i] = (x % 256) as u8;
-        x = x / 256;
-        i += 1;
+    for byte in buf[..n].iter_mut() {
+        *byte = (x % 256) as u8;
+        x /= 256;
     }
 }
 
@@ -21,12 +19,9 @@ pub fn word_in(bytes: &[u8], n: usize) -> u64
     requires { (n ≤ 8) × (n ≤ length bytes.now) }
     ensures { result ≡ unpacked bytes.now n }
 {
-    let mut word: u64 = 0;
-    let mut taken = 0;
-    while taken < n {
-        let place = n - taken - 1;
-        word = word * 256 + bytes[place] as u64;
-        taken += 1;
+    let mut word = 0;
+    for i in (0..n).rev() {
+        word = word * 256 + u64::from(bytes[i]);
     }
     word
 }

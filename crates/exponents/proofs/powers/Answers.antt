@@ -1,20 +1,10 @@
--- `exponents::powers` meets its contract: each table passes the one test, which is computed over all of it. `search` reads the table
+-- `exponents::powers` meets its contract: each table passes the one test, which is computed over all of it. `search` reads the tables
 -- off the goal, so that the test is of the code's own numbers. Assumes nothing.
-use mathlib.Core.Path.{◌≡◌}
-use native.Mathlib.Omega.{arith}
 use borrow.Author.Rules.{rules}
 use Rattle.field.specs.Field.{◌⊕◌, bit_times, modulus, reduction, times_alpha}
-use Rattle.exponents.proofs.ExponentTableLaws.{table_powers_lem}
+use Rattle.exponents.proofs.ExponentTableLaws.{three_powers}
 use Rattle.exponents.proofs.powers.Goals as goal
 
-pub returns-then-m-eq4 : goal.returns-then-m-eq4
+pub returns : goal.returns
 unfolding ◌⊕◌ bit_times modulus reduction times_alpha
-returns-then-m-eq4 c = search (rules, table_powers_lem 4)
-
-pub returns-then-m-eq5 : goal.returns-then-m-eq5
-unfolding ◌⊕◌ bit_times modulus reduction times_alpha
-returns-then-m-eq5 c = search (rules, table_powers_lem 5)
-
-pub returns-else-m-eq5 : goal.returns-else-m-eq5
-unfolding ◌⊕◌ bit_times modulus reduction times_alpha
-returns-else-m-eq5 c = let e : c.args.m ≡ 6 = omega arith in search (rules, e, table_powers_lem 6)
+returns c = search (rules, three_powers)

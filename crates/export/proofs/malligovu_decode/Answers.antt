@@ -1,5 +1,4 @@
 -- `export::malligovu_decode` meets its contract. Assumes nothing.
-use mathlib.Core.Path.{refl}
 use Rattle.export.proofs.NarrowLaws.{decode_narrow}
 use Rattle.export.proofs.malligovu_decode.Goals as goal
 
@@ -12,6 +11,6 @@ returns c =
     record {
       answer = c.decode-decoding.result;
       answers = decode_narrow on-m on-t on-s c.narrow-4.ensures a.soft.now a.word.now c.decode-decoding.ensures;
-      refusal = refl;
-      tells = c.tell_figures.ensures;
+      refusal = c.from.ensures;
+      tells = rw (c.from.ensures, ← c.from-distance.ensures, ← c.from-flips.ensures) c.tell.ensures;
     }

@@ -5,5 +5,6 @@ use Rattle.export.proofs.malligovu_encode.Goals as goal
 pub returns : goal.returns
 returns c =
     let a = c.args in
-    encode_narrow c.narrow.ensures c.narrow-2.ensures c.narrow-3.ensures a.message a.word.now
-    c.encode.ensures
+    rw c.from.ensures
+    (encode_narrow c.narrow.ensures c.narrow-2.ensures c.narrow-3.ensures a.message a.word.now
+    c.encode.ensures)

@@ -1,5 +1,4 @@
--- `received::reliabilities_of` meets its contract. The loop's invariant: the reliabilities of the first p values are in, and the
--- positions from p on are as if unsent. The measure is what is left of the values. Assumes nothing.
+-- `received::reliabilities_of` meets its contract. Assumes nothing.
 use native.Mathlib.Omega.{arith}
 use borrow.Author.Rules.{rules}
 use lib.IntN.{pos}
@@ -16,10 +15,10 @@ pub loop-p-preserved : goal.loop-p-preserved
 loop-p-preserved c =
     let l = c.loop-p in
     let soft = c.args.soft.now in
-    one_more_in soft l.p l.reliability l.invariant _ c.size_of.result c.loop-p-test.true (omega arith)
-    (to_z-of_z w8 (get_or soft l.p (pos 0)) (search rules)) c.size_of.ensures
+    one_more_in soft l.p l.reliability l.invariant _ c.unsigned_abs.result (omega arith) (omega arith)
+    (to_z-of_z w8 (get_or soft l.p (pos 0)) (search rules)) (c.unsigned_abs.ensures.value, c.unsigned_abs.ensures.bound)
 
 pub returns : goal.returns
 returns c =
     let l = c.loop-p in
-    all_in c.args.soft.now l.p l.reliability l.invariant c.loop-p-test.false
+    all_in c.args.soft.now l.p l.reliability l.invariant (omega arith)

@@ -1,12 +1,7 @@
 -- `received::reliabilities_of` meets its contract. The loop's invariant: the reliabilities of the first p values are in, and the
--- positions from p on are as if unsent. The measure is what is left of the values. Assumes nothing.
-use Prim.Native.Nat.{◌-◌}
-use lib.ListN.{length}
+-- positions from p on are as if unsent. Assumes nothing.
 use Rattle.received.proofs.ReceiveSteps.{FirstIn}
 use Rattle.received.proofs.reliabilities_of.Given as goal
 
 abbrev pub invariant-loop-p : goal.invariant-loop-p
 invariant-loop-p l = FirstIn l.soft l.p l.reliability
-
-abbrev pub decreases-loop-p : goal.decreases-loop-p
-decreases-loop-p l = length l.soft - l.p

@@ -6,6 +6,7 @@ use Prim.Native.Nat.{ℕ, suc, ◌+◌, ◌*◌, ◌%◌, ◌<◌, ◌≤◌}
 use native.Mathlib.Nat.{eq-or-lt_of_le, le_of_suc-le-suc}
 use native.Mathlib.Decide.{ℕ_discrete}
 use native.Mathlib.Omega.{arith}
+use Rattle.field.specs.Lowest.{lowest_of}
 use Rattle.field.proofs.LowestLaws.{lowest_at}
 use Rattle.codes.specs.Codeword.{bit_of, value_at}
 use Rattle.codes.proofs.ClaimsShown.{faulty_powers_are_odd}
@@ -20,8 +21,8 @@ module _ (m w : ℕ) (low : 4 ≤ m) (high : m ≤ 6) where
   f = value_at m (bit_of w)
 
   -- "Evaluating at odd powers alone is right"
-  even-zero : (e : ℕ) → e % 2 ≡ 0 → 1 ≤ e → ZeroBelow f e → f e ≡ 0
-  even-zero e even l h = go (ℕ_discrete (f e) 0)
+  even_zero : (e : ℕ) → e % 2 ≡ 0 → 1 ≤ e → ZeroBelow f e → f e ≡ 0
+  even_zero e even l h = go (ℕ_discrete (f e) 0)
     where
       go : Dec (f e ≡ 0) → f e ≡ 0
       go (yes z) = z
@@ -29,36 +30,33 @@ module _ (m w : ℕ) (low : 4 ≤ m) (high : m ≤ 6) where
           let odd = faulty_powers_are_odd m low high w e e (record { low = l; high = omega arith; nonzero = n; lower = h }) in
           absurd (omega arith)
 
-  two-more : (e : ℕ) → e % 2 ≡ 1 → ZeroBelow f e → f e ≡ 0 → ZeroBelow f (e + 2)
-  two-more e odd h z =
+  two_more : (e : ℕ) → e % 2 ≡ 1 → ZeroBelow f e → f e ≡ 0 → ZeroBelow f (e + 2)
+  two_more e odd h z =
       let k = one_more f e h z in
       let two : suc (suc e) ≡ e + 2 = omega arith in
-      subst (ZeroBelow f) two (one_more f (suc e) k (even-zero (suc e) (omega arith) (omega arith) k))
+      subst (ZeroBelow f) two (one_more f (suc e) k (even_zero (suc e) (omega arith) (omega arith) k))
 
-pub loop-e-init : goal.loop-e-init
-loop-e-init c = (omega arith, omega arith, λ i l h. absurd (omega arith))
-
-pub returns-then-value_at-ne0 : goal.returns-then-value_at-ne0
-returns-then-value_at-ne0 c =
-    let v = c.value_at in
-    let l = c.loop-e in
-    let a = c.args in
-    sym (lowest_at (value_at a.m (bit_of a.word)) 1 (2 * a.t) l.e (omega arith) (omega arith) l.invariant.2
-    (λ _ z. c.if-value_at-ne0.true (v.ensures ∙ z)))
+-- where no odd power is left, the word is zero at all of 1, .., 2t
+none : (f : ℕ → ℕ) (t e : ℕ) → e ≡ 1 + 2 * t → ZeroBelow f e → lowest_of 1 (2 * t) f ≡ 1 + 2 * t
+none f t e q h = lowest_at f 1 (2 * t) e (omega arith) (omega arith) h (λ k. absurd (omega arith)) ∙ q
 
 pub loop-e-preserved : goal.loop-e-preserved
 loop-e-preserved c =
-    let v = c.value_at in
     let l = c.loop-e in
-    let a = c.args in (
+    let m = c.args.field.m in (
       omega arith,
       omega arith,
-      two-more a.m a.word (omega arith) (omega arith) l.e l.invariant.0 l.invariant.2 (sym v.ensures ∙ c.if-value_at-ne0.false),
+      two_more m c.args.word (omega arith) (omega arith) l.e l.invariant.0 l.invariant.2 (sym c.value_at.ensures ∙ c.if-value_at-ne0.false),
     )
 
 pub returns : goal.returns
 returns c =
     let l = c.loop-e in
-    let a = c.args in
-    sym (lowest_at (value_at a.m (bit_of a.word)) 1 (2 * a.t) l.e (omega arith) (omega arith) l.invariant.2
-    (λ k. absurd (omega arith)))
+    none (value_at c.args.field.m (bit_of c.args.word)) c.args.t l.e (omega arith) l.invariant.2
+
+pub returns-else-value_at-ne0 : goal.returns-else-value_at-ne0
+returns-else-value_at-ne0 c =
+    let l = c.loop-e in
+    let m = c.args.field.m in
+    none (value_at m (bit_of c.args.word)) c.args.t (l.e + 2) (omega arith)
+    (two_more m c.args.word (omega arith) (omega arith) l.e l.invariant.0 l.invariant.2 (sym c.value_at.ensures ∙ c.if-value_at-ne0.false))

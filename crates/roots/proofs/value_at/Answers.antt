@@ -13,32 +13,34 @@ use Rattle.roots.proofs.value_at.Goals.{else-rest-eq1, then-rest-eq1}
 pub loop-rest-init : goal.loop-rest-init
 unfolding length_of
 loop-rest-init c =
-    let F = laws c.args.m (omega arith) (omega arith) in
-    (turn_first c.args.m F c.args.e c.args.word, omega (arith, F.n_pos), omega arith)
+    let m = c.args.field.m in
+    let F = laws m (omega arith) (omega arith) in
+    (turn_first m F c.args.e c.args.word, omega (arith, F.n_pos), omega arith)
 
 pub loop-rest-preserved : goal.loop-rest-preserved
 unfolding ◌⊕◌
 loop-rest-preserved c =
     let l = c.loop-rest in
-    let a = c.args in
-    let F = laws a.m (omega arith) (omega arith) in
-    let v = value_at a.m (bit_of (l.rest / 2)) a.e in
-    let r : c.alpha_times-power.result ≡ times a.m (alpha_to a.m a.e) l.power = c.alpha_times-power.ensures in (
+    let m = c.args.field.m in
+    let e = c.args.e in
+    let F = laws m (omega arith) (omega arith) in
+    let v = value_at m (bit_of (l.rest / 2)) e in
+    let r : c.alpha_times-power.result ≡ times m (alpha_to m e) l.power = c.alpha_times-power.ensures in (
       elim c.if-rest-eq1.branch [
-        | then-rest-eq1 w ↦ ap₂ (λ (u p : ℕ). u ⊕ times a.m p v) w.sum-is r
-            ∙ turn_odd a.m F a.e l.sum l.power l.rest (omega arith) (omega arith) (omega arith) ∙ l.invariant.0
-        | else-rest-eq1 w ↦ ap₂ (λ (u p : ℕ). u ⊕ times a.m p v) w.sum-is r
-            ∙ turn_even a.m F a.e l.sum l.power l.rest (omega arith) (omega arith) ∙ l.invariant.0
+        | then-rest-eq1 w ↦ ap₂ (λ (u p : ℕ). u ⊕ times m p v) w.sum-is r
+            ∙ turn_odd m F e l.sum l.power l.rest (omega arith) (omega arith) (omega arith) ∙ l.invariant.0
+        | else-rest-eq1 w ↦ ap₂ (λ (u p : ℕ). u ⊕ times m p v) w.sum-is r
+            ∙ turn_even m F e l.sum l.power l.rest (omega arith) (omega arith) ∙ l.invariant.0
       ],
-      omega (arith, r, F.times_lt (alpha_to a.m a.e) l.power),
+      omega (arith, r, F.times_lt (alpha_to m e) l.power),
       omega arith,
     )
 
 pub returns : goal.returns
 returns c =
     let l = c.loop-rest in
-    let a = c.args in
-    let F = laws a.m (omega arith) (omega arith) in
+    let m = c.args.field.m in
+    let F = laws m (omega arith) (omega arith) in
     let z : l.rest ≡ 0 = omega arith in
-    sym (turn_last a.m F a.e l.sum l.power)
-    ∙ ap (λ (x : ℕ). l.sum ⊕ times a.m l.power (value_at a.m (bit_of x) a.e)) (sym z) ∙ l.invariant.0
+    sym (turn_last m F c.args.e l.sum l.power)
+    ∙ ap (λ (x : ℕ). l.sum ⊕ times m l.power (value_at m (bit_of x) c.args.e)) (sym z) ∙ l.invariant.0

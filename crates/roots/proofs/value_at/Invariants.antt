@@ -8,8 +8,9 @@ use Rattle.roots.proofs.value_at.Given as goal
 
 abbrev pub invariant-loop-rest : goal.invariant-loop-rest
 invariant-loop-rest l =
-    (l.sum ⊕ times l.m l.power (value_at l.m (bit_of l.rest) l.e) ≡ value_at l.m (bit_of l.word) l.e) × (l.power < 2 ^ l.m)
-    × (l.rest < 2 ^ length_of l.m)
+    let m = l.field.m in
+    (l.sum ⊕ times m l.power (value_at m (bit_of l.rest) l.e) ≡ value_at m (bit_of l.word) l.e) × (l.power < 2 ^ m)
+    × (l.rest < 2 ^ length_of m)
 
 abbrev pub decreases-loop-rest : goal.decreases-loop-rest
 decreases-loop-rest l = l.rest

@@ -1,4 +1,4 @@
--- `stream::finish` meets its contract: the piece is the whole line, or is held behind what is held of it. Assumes nothing.
+-- `stream::finish` meets its contract: of the whole line the first 513 bytes are enough. Assumes nothing.
 use mathlib.Core.Path.{sym, ◌∙◌}
 use mathlib.Core.List.{List}
 use Prim.Native.Nat.{ℕ}
@@ -9,17 +9,12 @@ use Rattle.lines.specs.declared.phase.Answered.{Answered}
 use Rattle.lines.proofs.KeptLaws.{line_kept, phase_kept}
 use Rattle.stream.proofs.finish.Goals as goal
 
--- of the line's text the first 513 bytes are enough
 answers_kept : (phase : Phase) (text before : List ℕ) (r : Answered) (after : List ℕ) → AnswersLine phase text before r after
     → AnswersLine phase (kept text) before r after
 answers_kept phase text before r after a =
     record { next = a.next ∙ sym (phase_kept phase text); writes = rw (line_kept phase text) a.writes }
 
-pub returns-then-state-eq0 : goal.returns-then-state-eq0
-returns-then-state-eq0 c =
-    let a = c.args in
-    rw c.if-state-eq0.true
-    (answers_kept a.state.phase a.piece.now a.out.now _ _ c.answer.ensures)
-
 pub returns : goal.returns
-returns c = rw (← c.hold-held.ensures.text) c.answer-2.ensures
+returns c =
+    let a = c.args in
+    rw (← c.whole.ensures) (answers_kept a.state.phase c.whole.result.now a.out.now c.answer.result c.answer.new.out c.answer.ensures)

@@ -6,8 +6,7 @@ use Rattle.stream.proofs.BlockSteps.{Turned}
 use Rattle.stream.proofs.step.Given as goal
 
 abbrev pub invariant-loop-end : goal.invariant-loop-end
-invariant-loop-end l = Turned (memory_of l.initial.current l.initial.line) l.block l.initial.out
-    l.current l.line l.out l.at l.wrote l.end
+invariant-loop-end l = Turned (memory_of l.initial.current l.initial.line) l.block l.initial.out l.current l.line l.out l.at l.wrote
 
 abbrev pub decreases-loop-end : goal.decreases-loop-end
 decreases-loop-end l = length l.block - l.at

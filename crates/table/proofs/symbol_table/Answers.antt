@@ -1,116 +1,113 @@
--- `table::symbol_table` meets its contract. The loop's invariant: the columns of the first j ranks are in their places, each cell the
--- power of its exponent. Assumes nothing.
-use mathlib.Core.Path.{◌≡◌, refl, sym, ap, subst, ◌∙◌}
-use mathlib.Core.Logic.{by_cases}
+-- `table::symbol_table` meets its contract. Assumes nothing.
+use mathlib.Core.Path.{◌≡◌, ap, subst, ◌∙◌}
 use mathlib.Core.List.{List}
-use Prim.Native.Nat.{ℕ, ◌+◌, ◌*◌, ◌<◌}
-use native.Mathlib.Decide.{ℕ_discrete}
+use Prim.Native.Nat.{ℕ, ◌+◌, ◌-◌, ◌*◌, ◌<◌, ◌≤◌}
 use native.Mathlib.Omega.{arith}
-use lib.ListN.{get_or}
+use borrow.Author.Rules.{rules}
+use lib.ListN.{length, get_or, take, drop, length-take, length-drop}
+use Rattle.std.proofs.lemmas.List.{get_or-take, get_or-drop}
 use Rattle.field.specs.Field.{alpha_to, length_of}
 use Rattle.field.proofs.FieldLaws.{laws}
 use Rattle.codes.specs.Lagrange.{Places}
 use Rattle.codes.proofs.ShapeLaws.{length_small, length_large}
 use Rattle.exponents.specs.Exponent.{Powers, Zech}
+use Rattle.ranks.specs.declared.Position.{Position}
 use Rattle.ranks.specs.Places.{place_in}
-use Rattle.table.specs.Exponents.{cell_exponent}
-use Rattle.table.specs.Table.{CellExponents, PutsColumn, Numbered, Cells}
-use Rattle.table.proofs.ExponentLaws.{cell_power}
+use Rattle.table.specs.Exponents.{outside_of, cell_exponent}
+use Rattle.table.specs.Table.{CellExponents, Numbered, Cells}
+use Rattle.table.proofs.ExponentLaws.{cells_same, cell_power}
 use Rattle.table.proofs.symbol_table.Invariants.{Columns}
 use Rattle.table.proofs.symbol_table.Goals as goal
 use Rattle.table.proofs.symbol_table.Goals.{In-loop-j}
 
--- one column more
-columns-more : (powers exponents : List ℕ) (place : ℕ → ℕ) (j : ℕ) (before after : List ℕ) → j < 63
-    → Columns powers exponents place j before → PutsColumn (place j) j powers exponents before after
-    → Columns powers exponents place (j + 1) after
-columns-more powers exponents place j before after lj c put = record {
-  full = put.full;
-  cells = λ q i lq li.
-      by_cases (ℕ_discrete i j)
-      (λ same. subst (λ (x : ℕ). get_or after (q * 63 + x) 0 ≡ get_or powers (get_or exponents (q * 64 + place x) 0) 0) (sym same)
-      (put.column q lq))
-      (λ other. put.rest q i (omega arith) other ∙ c.cells q i lq (omega arith));
+-- columns go by the positions of their ranks alone
+columns_same : (powers exponents : List ℕ) (place other : ℕ → ℕ) (size : ℕ) (l : List ℕ) → ((j : ℕ) → j < size → place j ≡ other j)
+    → Columns powers exponents place size l → Columns powers exponents other size l
+columns_same powers exponents place other size l same c = record {
+  full = c.full;
+  cells = λ q i lq li. c.cells q i lq li ∙ ap (λ (p : ℕ). get_or powers (get_or exponents (q * 64 + p) 0) 0) (same i li);
 }
 
--- the powers of the exponents are the cells
-columns-cells : (m n size rows : ℕ) (powers zech exponents : List ℕ) (place : ℕ → ℕ) (l : List ℕ) → Numbered m n size rows place
-    → Powers m powers → Zech m zech → CellExponents n size zech place rows rows exponents → Columns powers exponents place size l
+-- the powers of the exponents are the cells; V are the places outside in a list of their own
+columns_cells : (m n size rows : ℕ) (powers zech exponents : List ℕ) (place V : ℕ → ℕ) (l : List ℕ) → Numbered m n size rows place
+    → Powers m powers → Zech m zech → ((v : ℕ) → v < rows → V v ≡ outside_of size place v)
+    → CellExponents n zech V rows rows exponents → Columns powers exponents place size l
     → Cells m size rows place l
-columns-cells m n size rows powers zech exponents place l nb pw z e c o j lo lj =
+columns_cells m n size rows powers zech exponents place V l nb pw z here e c o j lo lj =
     let F = laws m nb.m_low nb.m_high in
     let p = place j in
+    let U = outside_of size place in
     let lp : p < length_of m = nb.each.inside j (omega (arith, nb.all)) in
-    let each : Places m (length_of m) place = subst (λ (u : ℕ). Places m u place) nb.long nb.each in
-    let all : size + rows ≡ length_of m = nb.all ∙ nb.long in
+    let outside : Places m rows U = record {
+      inside = λ v lv. nb.each.inside (size + v) (omega (arith, nb.all));
+      apart = λ v w hv hw q. let s = nb.each.apart (size + v) (size + w) (omega (arith, nb.all)) (omega (arith, nb.all)) q in omega arith;
+    } in
     let short = length_small m nb.m_low nb.m_high in
     c.cells o j (omega (arith, nb.few)) lj ∙ pw (get_or exponents (o * 64 + p) 0) (e.below (o * 64 + p) (omega (arith, nb.few)))
-    ∙ ap (alpha_to m) (e.right o p lo (omega (arith, nb.long)))
-    ∙ ap (λ (u : ℕ). alpha_to m (cell_exponent u size zech place rows o p)) nb.long
-    ∙ cell_power m F size rows zech place z each all short o p lo lp
+    ∙ ap (alpha_to m) (e.right o p lo (omega (arith, nb.long)) ∙ cells_same n zech V U rows here o p lo)
+    ∙ ap (λ (u : ℕ). alpha_to m (cell_exponent u zech U rows o p)) nb.long
+    ∙ cell_power m F rows zech U z outside short o p lo lp
     (λ v lv ne q. let s : j ≡ size + v = nb.each.apart j (size + v) (omega (arith, nb.all)) (omega (arith, nb.all)) q in omega arith)
 
--- in a turn: the rank and its position
-near : (c : In-loop-j)
-    → (c.loop-j.j < 63) × (place_in c.args.order c.loop-j.j < 63)
-near c =
-    let small = length_small c.args.m c.requires.m_low c.requires.m_high in
-    let e = c.requires.long in
-    let f = c.requires.all in
-    (omega arith, omega (arith, c.requires.each.inside c.loop-j.j (omega arith)))
+-- the ranges of every code
+ranges : (m n size rows : ℕ) (place : ℕ → ℕ) → Numbered m n size rows place → (0 < n) × (n ≤ 63) × (size + rows ≤ 63)
+ranges m n size rows place nb =
+    let small = length_small m nb.m_low nb.m_high in
+    let large = length_large m nb.m_low nb.m_high in
+    let e = nb.long in
+    let f = nb.all in
+    (omega arith, omega arith, omega arith)
 
-pub powers-powers-requires : goal.powers-powers-requires
-powers-powers-requires c = (c.requires.m_low, c.requires.m_high)
+-- a part of the order
+module _ (order : List Position) (size rows : ℕ) where
+  abbrev unset : Position
+  unset = record { 0 = 0 }
 
-pub zech-zech-requires : goal.zech-zech-requires
-zech-zech-requires c = (c.requires.m_low, c.requires.m_high)
+  abbrev outside : List Position
+  outside = take (size + rows - size) (drop size order)
 
-pub cell_exponents-exponents-requires : goal.cell_exponents-exponents-requires
-cell_exponents-exponents-requires c =
+  outside_length : size + rows ≤ length order → length outside ≡ rows
+  outside_length h = omega (arith, length-take (size + rows - size) (drop size order), length-drop size order)
+
+  outside_place : (v : ℕ) → v < rows → place_in outside v ≡ outside_of size (place_in order) v
+  outside_place v l =
+      ap (λ (q : Position). q.0) (get_or-take (size + rows - size) (drop size order) v unset (omega arith) ∙ get_or-drop size order v unset)
+
+  reliable_place : (j : ℕ) → j < size → place_in (take size order) j ≡ place_in order j
+  reliable_place j l = ap (λ (q : Position). q.0) (get_or-take size order j unset l)
+
+pub invariant_of-logs : goal.invariant_of-logs
+invariant_of-logs c =
+    let a = c.args in
     let p = c.requires in
-    let e = p.long in (
-      record {
-        some = omega (arith, length_large c.args.m p.m_low p.m_high);
-        short = omega (arith, length_small c.args.m p.m_low p.m_high);
-        few = p.few;
-        all = omega (arith, p.all);
-        inside = λ i l. omega (arith, p.each.inside i l);
-      },
-      λ i l. omega (arith, (c.zech-zech.ensures i l).0),
-    )
+    let r = ranges a.m a.n a.size a.rows (place_in a.order) p in
+    record { some = r.0; short = r.1; below = λ i l. omega (arith, (c.zech-zech.ensures i l).0, p.long) }
 
-pub loop-j-init : goal.loop-j-init
-loop-j-init c = (omega arith, record { full = refl; cells = λ q i lq li. absurd (omega arith) })
+pub shared_ref_as_front-reliable : goal.shared_ref_as_front-reliable
+shared_ref_as_front-reliable c =
+    let a = c.args in
+    omega (arith, (ranges a.m a.n a.size a.rows (place_in a.order) c.requires).2)
 
-pub bounds-order-j : goal.bounds-order-j
-bounds-order-j c = (near (goal.at.bounds-order-j c).In-loop-j).0
-
-pub overflow_cast-j : goal.overflow_cast-j
-overflow_cast-j c = record { fits = omega (arith, (near (goal.at.overflow_cast-j c).In-loop-j).0) }
-
-pub put_column-requires : goal.put_column-requires
-put_column-requires c =
-    let l = c.loop-j in
-    let at = near (goal.at.put_column-requires c).In-loop-j in
-    (omega (arith, at.1), at.0, c.cell_exponents-exponents.ensures.below, l.invariant.1.full)
-
-pub overflow_add-j : goal.overflow_add-j
-overflow_add-j c = record { fits = omega (arith, (near (goal.at.overflow_add-j c).In-loop-j).0) }
-
-pub loop-j-preserved : goal.loop-j-preserved
-loop-j-preserved c =
-    let l = c.loop-j in
-    let at = near (goal.at.loop-j-preserved c).In-loop-j in
-    (omega arith, columns-more _ _ _ l.j l.table _ at.0 l.invariant.1 c.put_column.ensures)
+pub slice_bounds-outside-end : goal.slice_bounds-outside-end
+slice_bounds-outside-end c =
+    let a = c.args in
+    let h : a.size + a.rows ≤ 63 = (ranges a.m a.n a.size a.rows (place_in a.order) c.requires).2 in
+    search rules
 
 pub returns : goal.returns
 returns c =
     let a = c.args in
-    let exponents = c.cell_exponents-exponents in
-    let zech = c.zech-zech in
+    let order = a.order in
     let powers = c.powers-powers in
+    let zech = c.zech-zech in
+    let exponents = c.cell_exponents-exponents in
     let l = c.loop-j in
-    let e : l.j ≡ a.size = omega arith in
-    columns-cells a.m a.n a.size a.rows powers.result zech.result exponents.result (place_in a.order)
-    l.table c.requires powers.ensures zech.ensures
-    exponents.ensures (subst (λ (u : ℕ). Columns powers.result exponents.result (place_in a.order) u l.table) e l.invariant.1)
+    let r = ranges a.m a.n a.size a.rows (place_in order) c.requires in
+    let V = place_in (outside order a.size a.rows) in
+    let k : length (outside order a.size a.rows) ≡ a.rows = outside_length order a.size a.rows (omega arith) in
+    let e : l.j ≡ a.size = omega (arith, length-take a.size order) in
+    let columns = subst (λ (u : ℕ). Columns powers.result exponents.result (place_in (take a.size order)) u l.table) e l.invariant in
+    columns_cells a.m a.n a.size a.rows powers.result zech.result exponents.result (place_in order) V l.table c.requires
+    powers.ensures zech.ensures (outside_place order a.size a.rows)
+    (subst (λ (u : ℕ). CellExponents a.n zech.result V u u exponents.result) k exponents.ensures)
+    (columns_same _ _ _ _ a.size l.table (reliable_place order a.size a.rows) columns)

@@ -2,7 +2,7 @@
 -- power of its exponent. Assumes nothing.
 use mathlib.Core.Path.{◌≡◌}
 use mathlib.Core.List.{List}
-use Prim.Native.Nat.{ℕ, ◌+◌, ◌-◌, ◌*◌, ◌<◌, ◌≤◌}
+use Prim.Native.Nat.{ℕ, ◌+◌, ◌*◌, ◌<◌}
 use lib.ListN.{length, get_or}
 use Rattle.ranks.specs.Places.{place_in}
 use Rattle.table.proofs.symbol_table.Given as goal
@@ -12,7 +12,4 @@ pub record Columns (powers exponents : List ℕ) (place : ℕ → ℕ) (j : ℕ)
   pub cells : (q i : ℕ) → q < 6 → i < j → get_or l (q * 63 + i) 0 ≡ get_or powers (get_or exponents (q * 64 + place i) 0) 0
 
 abbrev pub invariant-loop-j : goal.invariant-loop-j
-invariant-loop-j l = (l.j ≤ l.size) × Columns l.powers l.exponents (place_in l.order) l.j l.table
-
-abbrev pub decreases-loop-j : goal.decreases-loop-j
-decreases-loop-j l = l.size - l.j
+invariant-loop-j l = Columns l.powers l.exponents (place_in l.reliable) l.j l.table

@@ -7,11 +7,8 @@ use Rattle.prepare.specs.PlanOf.{plan_of}
 use Rattle.candidates.specs.As.{as_best}
 use Rattle.candidates.proofs.pattern.candidate.Goals as goal
 
-pub weigh-distance-requires : goal.weigh-distance-requires
-weigh-distance-requires c = (c.requires.0, c.requires.1)
-
 pub counting-requires : goal.counting-requires
-counting-requires c = ((c.nearer.ensures c.if-nearer.true).0, c.requires.2)
+counting-requires c = ((c.nearer.ensures c.if-nearer.true).0, c.requires.1)
 
 pub returns-then-nearer : goal.returns-then-nearer
 returns-then-nearer c =
@@ -20,10 +17,10 @@ returns-then-nearer c =
     c.counting.ensures (rank_weighed (plan_of a.p) a.ranks) (omega (arith, far, c.weigh-distance.ensures))
 
 pub placed-requires : goal.placed-requires
-placed-requires c = (c.requires.0, c.requires.1, c.weigh-distance.ensures)
+placed-requires c = (c.requires.0, c.weigh-distance.ensures)
 
 pub with-requires : goal.with-requires
-with-requires c = c.requires.2
+with-requires c = c.requires.1
 
-pub returns : goal.returns
-returns c = c.with.ensures ∙ ap (better (as_best c.args.best)) c.placed.ensures
+pub returns-else-nearer : goal.returns-else-nearer
+returns-else-nearer c = c.with.ensures ∙ ap (better (as_best c.args.best.now)) c.placed.ensures

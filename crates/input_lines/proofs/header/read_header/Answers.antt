@@ -1,78 +1,114 @@
--- `input_lines::header::read_header` meets its contract. The loop's invariant: the numbers of the items before `at` stand at the start of
--- the array. The measure is what is left of the text, and one for its end. Assumes nothing.
-use mathlib.Core.Path.{sym, subst, ◌∙◌}
-use native.Mathlib.Omega.{arith}
-use lib.Dec.{T}
-use Rattle.input_lines.proofs.HeaderSteps.{too_long, numbers_begin, numbers_wrong, numbers_many, numbers_more}
-use Rattle.input_lines.proofs.HeaderSteps.{end_after, end_within, numbers_few, numbers_three, numbers_four}
+-- `input_lines::header::read_header` meets its contract: number by number. Assumes nothing.
+use mathlib.Core.Path.{sym, ap, ◌∙◌}
+use Rattle.std.proofs.Common.{rules}
+use Rattle.std.specs.Prelude.{Some}
+use Rattle.items.proofs.SplitLaws.{items_road}
+use Rattle.input_lines.specs.Header.{header_with}
+use Rattle.input_lines.proofs.HeaderSteps.{too_long, left_begin, left_more, left_wrong, left_none, one, two, three}
+use Rattle.input_lines.proofs.HeaderSteps.{numbers_three, fifth, numbers_four, ended}
 use Rattle.input_lines.proofs.header.read_header.Goals as goal
+use Rattle.input_lines.proofs.header.read_header.Goals.{in-Some+in_ok-order-in-Some, in-None}
 
-pub returns-then-text-gt512 : goal.returns-then-text-gt512
-returns-then-text-gt512 c = c.wrong.ensures ∙ sym (too_long c.args.text.now c.if-text-gt512.true)
+pub returns-then-text-gt-LONGEST : goal.returns-then-text-gt-LONGEST
+returns-then-text-gt-LONGEST c = sym (too_long c.args.text.now c.if-text-gt-LONGEST.true)
 
-pub loop-at-init : goal.loop-at-init
-loop-at-init c = (omega arith, numbers_begin c.args.text.now)
+pub returns-in_err-m : goal.returns-in_err-m
+returns-in_err-m c =
+    let text = c.args.text.now in
+    let f = c.split-items.ensures in
+    c.from_residual-in_err-m.ensures ∙ sym (left_wrong _ text c.split-items.result c.in_ok-next.field-0 c.next.new.self
+    (left_begin _ text c.split-items.result (items_road _ text f.rest f.done f.closure (λ x b q k. search rules)))
+    c.in_ok-next.ensures.steps c.in_err-m.ensures)
 
-pub returns-then-not-is_plain : goal.returns-then-not-is_plain
-returns-then-not-is_plain c =
-    let a = c.args in
-    let l = c.loop-at in
-    let f = c.item_at-found in
-    c.wrong-then-not-is_plain.ensures ∙ sym (numbers_wrong a.text.now l.numbers l.count l.at l.invariant.1 (omega arith) f.result
-    f.ensures (sym c.is_plain.ensures ∙ c.if-not-is_plain.true))
+pub returns-in_err-next-2 : goal.returns-in_err-next-2
+returns-in_err-next-2 c =
+    let text = c.args.text.now in
+    let f = c.split-items.ensures in
+    c.from_residual-in_err-next-2.ensures ∙ sym (left_none _ text c.next.new.self c.next-2.new.self
+    (one _ text c.split-items.result c.in_ok-next.field-0 c.next.new.self c.in_ok-m.m
+    (items_road _ text f.rest f.done f.closure (λ x b q k. search rules)) c.in_ok-next.ensures.steps c.in_ok-m.ensures)
+    c.in_err-next-2.ensures.steps c.if-text-gt-LONGEST.false)
 
-pub returns-then-count-eq4 : goal.returns-then-count-eq4
-returns-then-count-eq4 c =
-    let a = c.args in
-    let l = c.loop-at in
-    let f = c.item_at-found in
-    c.wrong-then-count-eq4.ensures ∙ sym (numbers_many a.text.now l.numbers l.count l.at l.invariant.1 (omega arith) f.result f.ensures
-    c.if-count-eq4.true)
+pub returns-in_err-t : goal.returns-in_err-t
+returns-in_err-t c =
+    let text = c.args.text.now in
+    let f = c.split-items.ensures in
+    c.from_residual-in_err-t.ensures ∙ sym (left_wrong _ text c.next.new.self c.in_ok-next-2.field-0 c.next-2.new.self
+    (one _ text c.split-items.result c.in_ok-next.field-0 c.next.new.self c.in_ok-m.m
+    (items_road _ text f.rest f.done f.closure (λ x b q k. search rules)) c.in_ok-next.ensures.steps c.in_ok-m.ensures)
+    c.in_ok-next-2.ensures.steps c.in_err-t.ensures)
 
-pub overflow_add-at : goal.overflow_add-at
-overflow_add-at c =
-    let a = c.args in
-    let l = c.loop-at in
-    let f = c.item_at-found in
-    omega (arith, end_within a.text.now l.numbers l.count l.at l.invariant.1 (omega arith) f.result f.ensures)
+pub returns-in_err-next-3 : goal.returns-in_err-next-3
+returns-in_err-next-3 c =
+    let text = c.args.text.now in
+    let f = c.split-items.ensures in
+    c.from_residual-in_err-next-3.ensures ∙ sym (left_none _ text c.next-2.new.self c.next-3.new.self
+    (two _ text c.split-items.result c.in_ok-next.field-0 c.next.new.self c.in_ok-m.m
+    (items_road _ text f.rest f.done f.closure (λ x b q k. search rules)) c.in_ok-next.ensures.steps c.in_ok-m.ensures
+    c.in_ok-next-2.field-0 c.next-2.new.self c.in_ok-t.t c.in_ok-next-2.ensures.steps c.in_ok-t.ensures)
+    c.in_err-next-3.ensures.steps c.if-text-gt-LONGEST.false)
 
-pub loop-at-smaller : goal.loop-at-smaller
-loop-at-smaller c =
-    let a = c.args in
-    let l = c.loop-at in
-    let f = c.item_at-found in
-    omega (
-      arith,
-      end_within a.text.now l.numbers l.count l.at l.invariant.1 (omega arith) f.result f.ensures,
-      end_after
-          a.text.now l.numbers l.count l.at l.invariant.1 (omega arith) f.result f.ensures,
-    )
+pub returns-in_err-s : goal.returns-in_err-s
+returns-in_err-s c =
+    let text = c.args.text.now in
+    let f = c.split-items.ensures in
+    c.from_residual-in_err-s.ensures ∙ sym (left_wrong _ text c.next-2.new.self c.in_ok-next-3.field-0 c.next-3.new.self
+    (two _ text c.split-items.result c.in_ok-next.field-0 c.next.new.self c.in_ok-m.m
+    (items_road _ text f.rest f.done f.closure (λ x b q k. search rules)) c.in_ok-next.ensures.steps c.in_ok-m.ensures
+    c.in_ok-next-2.field-0 c.next-2.new.self c.in_ok-t.t c.in_ok-next-2.ensures.steps c.in_ok-t.ensures)
+    c.in_ok-next-3.ensures.steps c.in_err-s.ensures)
 
-pub loop-at-preserved : goal.loop-at-preserved
-loop-at-preserved c =
-    let a = c.args in
-    let l = c.loop-at in
-    let f = c.item_at-found in (
-      l.invariant.0,
-      numbers_more a.text.now l.numbers l.count l.at l.invariant.1 (omega arith) f.result f.ensures
-          (subst T (sym c.if-not-is_plain.false ∙ c.is_plain.ensures) tt) (omega arith),
-    )
+pub returns-in_err-order-in-Some : goal.returns-in_err-order-in-Some
+returns-in_err-order-in-Some c =
+    let text = c.args.text.now in
+    let f = c.split-items.ensures in
+    c.from_residual-in_err-order-in-Some.ensures ∙ sym (left_wrong _ text c.next-3.new.self c.in-Some.item c.next-4.new.self
+    (three _ text c.split-items.result c.in_ok-next.field-0 c.next.new.self c.in_ok-m.m
+    (items_road _ text f.rest f.done f.closure (λ x b q k. search rules)) c.in_ok-next.ensures.steps c.in_ok-m.ensures
+    c.in_ok-next-2.field-0 c.next-2.new.self c.in_ok-t.t c.in_ok-next-2.ensures.steps c.in_ok-t.ensures
+    c.in_ok-next-3.field-0 c.next-3.new.self c.in_ok-s.s c.in_ok-next-3.ensures.steps c.in_ok-s.ensures)
+    c.in-Some.ensures.steps c.in_err-order-in-Some.ensures)
 
-pub returns-then-count-lt3 : goal.returns-then-count-lt3
-returns-then-count-lt3 c =
-    let l = c.loop-at in
-    c.wrong-then-count-lt3.ensures
-    ∙ sym (numbers_few c.args.text.now l.numbers l.count l.at l.invariant.1
-    c.loop-at-test.false c.if-count-lt3.true)
+pub returns-then-is_some : goal.returns-then-is_some
+returns-then-is_some c =
+    let text = c.args.text.now in
+    let f = c.split-items.ensures in
+    elim c.match-next.branch [
+      | in-Some+in_ok-order-in-Some w ↦
+          sym (fifth _ text c.next-4.new.self c.next-5.new.self
+          (left_more _ text c.next-3.new.self w.in-Some.item c.next-4.new.self w.in_ok-order-in-Some.order
+          (three _ text c.split-items.result c.in_ok-next.field-0 c.next.new.self c.in_ok-m.m
+          (items_road _ text f.rest f.done f.closure (λ x b q k. search rules)) c.in_ok-next.ensures.steps c.in_ok-m.ensures
+          c.in_ok-next-2.field-0 c.next-2.new.self c.in_ok-t.t c.in_ok-next-2.ensures.steps c.in_ok-t.ensures
+          c.in_ok-next-3.field-0 c.next-3.new.self c.in_ok-s.s c.in_ok-next-3.ensures.steps c.in_ok-s.ensures)
+          w.in-Some.ensures.steps w.in_ok-order-in-Some.ensures)
+          _ (sym c.is_some.ensures ∙ c.if-is_some.true) c.next-5.ensures.steps)
+      | in-None w ↦
+          absurd (ended _ c.next-3.new.self c.next-4.new.self c.next-5.new.self _ w.in-None.ensures.steps
+          (sym c.is_some.ensures ∙ c.if-is_some.true) c.next-5.ensures.steps)
+    ]
 
-pub returns-then-count-eq3 : goal.returns-then-count-eq3
-returns-then-count-eq3 c =
-    let l = c.loop-at in
-    sym (numbers_three c.args.text.now l.numbers l.count l.at l.invariant.1
-    c.loop-at-test.false l.invariant.0 c.if-count-eq3.true)
-
-pub returns-else-count-eq3 : goal.returns-else-count-eq3
-returns-else-count-eq3 c =
-    let l = c.loop-at in
-    sym (numbers_four c.args.text.now l.numbers l.count l.at l.invariant.1
-    c.loop-at-test.false l.invariant.0 (omega (arith, l.invariant.1.fits, c.if-count-eq3.false, c.if-count-lt3.false)))
+pub returns : goal.returns
+returns c =
+    let text = c.args.text.now in
+    let f = c.split-items.ensures in
+    elim c.match-next.branch [
+      | in-Some+in_ok-order-in-Some w ↦
+          ap (λ order. Some (header_with c.in_ok-m.m c.in_ok-t.t c.in_ok-s.s order)) w.order-is
+          ∙ sym (numbers_four _ text c.next-4.new.self c.next-5.new.self
+          (left_more _ text c.next-3.new.self w.in-Some.item c.next-4.new.self w.in_ok-order-in-Some.order
+          (three _ text c.split-items.result c.in_ok-next.field-0 c.next.new.self c.in_ok-m.m
+          (items_road _ text f.rest f.done f.closure (λ x b q k. search rules)) c.in_ok-next.ensures.steps c.in_ok-m.ensures
+          c.in_ok-next-2.field-0 c.next-2.new.self c.in_ok-t.t c.in_ok-next-2.ensures.steps c.in_ok-t.ensures
+          c.in_ok-next-3.field-0 c.next-3.new.self c.in_ok-s.s c.in_ok-next-3.ensures.steps c.in_ok-s.ensures)
+          w.in-Some.ensures.steps w.in_ok-order-in-Some.ensures)
+          _ (sym c.is_some.ensures ∙ c.if-is_some.false) c.next-5.ensures.steps c.if-text-gt-LONGEST.false)
+      | in-None w ↦
+          ap (λ order. Some (header_with c.in_ok-m.m c.in_ok-t.t c.in_ok-s.s order)) w.order-is
+          ∙ sym (numbers_three _ text c.next-3.new.self c.next-4.new.self
+          (three _ text c.split-items.result c.in_ok-next.field-0 c.next.new.self c.in_ok-m.m
+          (items_road _ text f.rest f.done f.closure (λ x b q k. search rules)) c.in_ok-next.ensures.steps c.in_ok-m.ensures
+          c.in_ok-next-2.field-0 c.next-2.new.self c.in_ok-t.t c.in_ok-next-2.ensures.steps c.in_ok-t.ensures
+          c.in_ok-next-3.field-0 c.next-3.new.self c.in_ok-s.s c.in_ok-next-3.ensures.steps c.in_ok-s.ensures)
+          w.in-None.ensures.steps c.if-text-gt-LONGEST.false)
+    ]

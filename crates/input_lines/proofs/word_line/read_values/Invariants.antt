@@ -1,12 +1,19 @@
--- `input_lines::word_line::read_values` meets its contract. The loop's invariant: the values of the items before `at` stand at the start of
--- the array. The measure is what is left of the text, and one for its end. Assumes nothing.
-use Prim.Native.Nat.{◌+◌, ◌-◌, ◌≤◌}
-use lib.ListN.{length}
-use Rattle.input_lines.proofs.ValuesSteps.{Read}
+-- `input_lines::word_line::read_values` meets its contract. The loop's invariant: the values of the items so far stand at the start of the
+-- array, and what is left of the line has room there. Assumes nothing.
+use mathlib.Core.Path.{◌≡◌}
+use Prim.Native.Nat.{◌+◌, ◌*◌, ◌≤◌}
+use lib.ListN.{length, take, drop}
+use Rattle.items.specs.Line.{items}
+use Rattle.input_lines.specs.WordLine.{is_value, value_of}
+use Rattle.input_lines.proofs.ReadSteps.{Reading, bytes_of}
 use Rattle.input_lines.proofs.word_line.read_values.Given as goal
 
-abbrev pub invariant-loop-at : goal.invariant-loop-at
-invariant-loop-at l = (length l.text ≤ 512) × Read l.text l.values l.count l.at
-
-abbrev pub decreases-loop-at : goal.decreases-loop-at
-decreases-loop-at l = length l.text + 1 - l.at
+abbrev pub invariant-loop-item : goal.invariant-loop-item
+invariant-loop-item l = record {
+  within : length l.text ≤ 512;
+  size : length l.values ≡ 256;
+  turns : l.count ≡ length l.yielded;
+  fits : l.count ≤ 256;
+  room : 2 * l.count + bytes_of (drop l.count (items l.text)) ≤ length l.text + 1;
+  reading : Reading is_value value_of l.text (take l.count l.values) (drop l.count (items l.text));
+}

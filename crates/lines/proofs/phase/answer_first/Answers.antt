@@ -7,26 +7,35 @@ use Rattle.lines.proofs.phase.answer_first.Goals as goal
 
 pub returns-then-wrote-eq0 : goal.returns-then-wrote-eq0
 returns-then-wrote-eq0 c =
-    let h = c.read_header-h in
+    let header = c.read_header-header in
     let w = c.answer_header-wrote in
+    let e = c.in-Some.is in
+    let says = rw e at w.ensures.size in
     record {
       next =
-          ap₂ words_or_end (sym (nothing_goes_on h.result (sym w.ensures.size ∙ c.if-wrote-eq0.true)) ∙ ap header_goes_on h.ensures)
-          h.ensures;
-      writes =
-          rw (answer_says c.args.text.now h.result h.ensures)
-          w.ensures;
+          ap₂ words_or_end (sym (nothing_goes_on c.in-Some.h (sym says ∙ c.if-wrote-eq0.true)) ∙ ap header_goes_on c.in-Some.ensures)
+          c.in-Some.ensures;
+      writes = rw (answer_says c.args.text.now header.result header.ensures) w.ensures;
     }
 
-pub returns : goal.returns
-returns c =
-    let h = c.read_header-h in
+-- a header that is refused
+pub returns-else-wrote-eq0 : goal.returns-else-wrote-eq0
+returns-else-wrote-eq0 c =
+    let header = c.read_header-header in
     let w = c.answer_header-wrote in
     record {
       next =
-          ap₂ words_or_end (sym (something_ends h.result (λ z. c.if-wrote-eq0.false (w.ensures.size ∙ z))) ∙ ap header_goes_on h.ensures)
-          h.ensures;
-      writes =
-          rw (answer_says c.args.text.now h.result h.ensures)
-          w.ensures;
+          ap (λ b. words_or_end b header.result) (sym (something_ends header.result (λ z. c.if-wrote-eq0.false (w.ensures.size ∙ z))))
+          ∙ ap (λ h. words_or_end (header_goes_on h) h) header.ensures;
+      writes = rw (answer_says c.args.text.now header.result header.ensures) w.ensures;
+    }
+
+pub returns-in-None : goal.returns-in-None
+unfolding header_goes_on
+returns-in-None c =
+    let header = c.read_header-header in
+    let w = c.answer_header-wrote in
+    record {
+      next = ap (λ h. words_or_end (header_goes_on h) h) (sym c.in-None.is ∙ header.ensures);
+      writes = rw (answer_says c.args.text.now header.result header.ensures) w.ensures;
     }

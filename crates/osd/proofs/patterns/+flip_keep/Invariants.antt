@@ -21,8 +21,8 @@ abbrev pub invariant-keep-loop-end : goal.invariant-keep-loop-end
 invariant-keep-loop-end l =
     (l.rank.0 ≤ l.end.0) × (l.end.0 ≤ l.p.size)
     × (l.may ≡ 1 → l.rank.0 < l.end.0 → slot_of (get_or l.parts (l.end.0 - 1) 0) ≡ slot_of l.part)
-    × ((x : Best) → as_best l.initial.b ≡ tried (plan_of l.p) l.flips.ranks x
-    → as_best l.b ≡ best_from l.p l.end.0 l.may l.flips.ranks x)
+    × ((x : Best) → as_best l.initial.best ≡ tried (plan_of l.p) l.flips.ranks x
+    → as_best l.best ≡ best_from l.p l.end.0 l.may l.flips.ranks x)
 
 abbrev pub decreases-keep-loop-end : goal.decreases-keep-loop-end
 decreases-keep-loop-end l = l.end.0

@@ -40,13 +40,12 @@ keep-requires c =
     let p = c.args.p in
     record {
       fits = (
-        c.requires.0,
         refl,
         record { low = pow_pos p.size; part = c.base_part-part.ensures ∙ sym (part_start (plan_of p) (told p)) },
-        all_linked p c.args.order _ _ _ c.requires.0.sizes c.parts_of-parts.ensures c.chain-chains.ensures
+        all_linked p c.args.order _ _ _ p.fits.sizes c.parts_of-parts.ensures c.chain-chains.ensures
             c.linked.ensures.2,
       );
-      rank_le_size = (omega arith, room p.size c.args.order _ c.requires.0.sizes c.requires.1 c.none.ensures);
+      rank_le_size = (omega arith, room p.size c.args.order _ p.fits.sizes c.requires c.none.ensures);
     }
 
 pub returns : goal.returns

@@ -1,12 +1,8 @@
 -- `chain` meets its contract. The loop's invariant: the ranks below j are in chains. Assumes nothing.
 use mathlib.Core.Path.{◌≡◌}
-use Prim.Native.Nat.{◌-◌, ◌≤◌}
 use lib.ListN.{length}
 use Rattle.parts.specs.Chains.{Chained}
 use Rattle.parts.proofs.chains.chain.Given as goal
 
 abbrev pub invariant-loop-j : goal.invariant-loop-j
-invariant-loop-j l = (l.j ≤ l.size) × (length l.chains ≡ 1088) × Chained l.parts l.j l.chains
-
-abbrev pub decreases-loop-j : goal.decreases-loop-j
-decreases-loop-j l = l.size - l.j
+invariant-loop-j l = (length l.chains ≡ 1088) × Chained l.parts l.j l.chains

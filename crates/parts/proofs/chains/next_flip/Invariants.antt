@@ -11,7 +11,4 @@ abbrev pub Passed : List ℕ → List ℕ → ℕ → ℕ → ℕ → ℕ → Ty
 Passed parts chains part from to r = (from ≤ r) × (r ≤ to) × ((i : ℕ) → r ≤ i → i < to → Shut chains (i + 1) (part ⊕ get_or parts i 0))
 
 abbrev pub invariant-loop-j : goal.invariant-loop-j
-invariant-loop-j l = Passed l.parts l.chains l.part l.first l.initial.j l.j
-
-abbrev pub decreases-loop-j : goal.decreases-loop-j
-decreases-loop-j l = l.j
+invariant-loop-j l = Passed l.parts l.chains l.part l.from.0 l.fn.to.0 l.j

@@ -41,23 +41,23 @@ next_fits word n order bits i pos l fit e =
     omega (arith, word_from_lt n (bit_at word order) (λ p _. bit_lt word (place_in order p)) fit (i - 1) (omega arith))
 
 -- the position of the rank in hand
-placed : (c : In-loop-i) → place_in c.args.order (c.loop-i.i - 1) < 63
+placed : (c : In-loop-i) → place_in c.args.order.now (c.loop-i.i - 1) < 63
 placed c = c.requires.1 (c.loop-i.i - 1) (omega arith)
 
 fits : (c : In-loop-i)
-    → c.loop-i.bits * 2 + c.args.hards / 2 ^ place_in c.args.order
+    → c.loop-i.bits * 2 + c.args.hards / 2 ^ place_in c.args.order.now
     (c.loop-i.i - 1) % 2 < 2 ^ 63
 fits c =
     let a = c.args in
     let l = c.loop-i in
-    next_fits a.hards a.n a.order l.bits l.i (omega arith) (omega arith) (omega arith) l.invariant.2
+    next_fits a.hards a.n a.order.now l.bits l.i (omega arith) (omega arith) (omega arith) l.invariant.2
 
 pub loop-i-init : goal.loop-i-init
 loop-i-init c =
     let a = c.args in (
       omega arith,
       record { full = refl; right = λ j l k. absurd (omega arith) },
-      sym (word_from_none a.n (bit_at a.hards a.order)),
+      sym (word_from_none a.n (bit_at a.hards a.order.now)),
     )
 
 pub bounds-reliability-position : goal.bounds-reliability-position
@@ -77,8 +77,8 @@ loop-i-preserved c =
     let a = c.args in
     let l = c.loop-i in (
       omega arith,
-      from_more a.n (value_at a.reliability.now a.order) l.i l.weight (omega arith) (omega arith) (omega arith) l.invariant.1,
-      next a.hards a.n a.order l.bits l.i (omega arith) (omega arith) l.invariant.2,
+      from_more a.n (value_at a.reliability.now a.order.now) l.i l.weight (omega arith) (omega arith) (omega arith) l.invariant.1,
+      next a.hards a.n a.order.now l.bits l.i (omega arith) (omega arith) l.invariant.2,
     )
 
 pub returns : goal.returns
@@ -89,5 +89,5 @@ returns c =
     let e : l.i ≡ 0 = omega arith in
     record {
       weight = λ i li. l.invariant.1.right i (omega arith) li;
-      bits = l.invariant.2 ∙ ap (word_from a.n (bit_at a.hards a.order)) e ∙ word_from_all a.n (bit_at a.hards a.order);
+      bits = l.invariant.2 ∙ ap (word_from a.n (bit_at a.hards a.order.now)) e ∙ word_from_all a.n (bit_at a.hards a.order.now);
     }

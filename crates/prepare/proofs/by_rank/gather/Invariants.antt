@@ -23,6 +23,3 @@ value_at values order i = get_or values (place_in order i) 0
 abbrev pub invariant-loop-i : goal.invariant-loop-i
 invariant-loop-i l =
     (l.i ≤ l.n) × From l.n (value_at l.reliability l.order) l.i l.weight × (l.bits ≡ word_from l.n (bit_at l.hards l.order) l.i)
-
-abbrev pub decreases-loop-i : goal.decreases-loop-i
-decreases-loop-i l = l.i

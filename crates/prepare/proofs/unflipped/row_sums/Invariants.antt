@@ -3,8 +3,5 @@
 use Rattle.prepare.proofs.RowSumLaws.{Summed}
 use Rattle.prepare.proofs.unflipped.row_sums.Given as goal
 
-abbrev pub invariant-loop-rest : goal.invariant-loop-rest
-invariant-loop-rest l = Summed l.symbols l.bits l.size l.sums l.rest
-
-abbrev pub decreases-loop-rest : goal.decreases-loop-rest
-decreases-loop-rest l = l.rest
+abbrev pub invariant-loop-j : goal.invariant-loop-j
+invariant-loop-j l = Summed l.symbols l.bits l.size l.sums l.j-iterator.0

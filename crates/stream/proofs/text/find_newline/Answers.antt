@@ -1,21 +1,17 @@
--- `text::find_newline` meets its contract. The loop's invariant: no newline was passed. Assumes nothing.
-use native.Mathlib.Omega.{arith}
-use Rattle.stream.proofs.ClearLaws.{clear_more}
+-- `text::find_newline` meets its contract: the sixteens that are passed over hold no newline, and behind them the first is found.
+-- Assumes nothing.
+use Rattle.stream.proofs.ClearLaws.{found_none, found_some}
 use Rattle.stream.proofs.text.find_newline.Goals as goal
 
-pub loop-i-init : goal.loop-i-init
-loop-i-init c = c.pass_over-i.ensures
-
-pub returns-then-block-i-eq-NEWLINE : goal.returns-then-block-i-eq-NEWLINE
-returns-then-block-i-eq-NEWLINE c =
-    record { after = omega arith; within = omega arith; none = c.loop-i.invariant.2; here = λ h. c.if-block-i-eq-NEWLINE.true }
-
-pub loop-i-preserved : goal.loop-i-preserved
-loop-i-preserved c =
-    let a = c.args in
-    let l = c.loop-i in
-    (omega arith, omega arith, clear_more a.block.now a.from l.i l.invariant.2 c.if-block-i-eq-NEWLINE.false)
+pub returns-in_err-after : goal.returns-in_err-after
+returns-in_err-after c =
+    rw c.from_residual.ensures
+    (found_none c.args.block.now c.args.from c.requires c.as_chunks.result.0.now c.as_chunks.ensures.front c.as_chunks.ensures.front_len
+    c.first_near.result c.first_near.ensures c.unwrap_or.result c.unwrap_or.ensures c.first_newline.result c.first_newline.ensures
+    c.in_err-after.was)
 
 pub returns : goal.returns
 returns c =
-    record { after = omega arith; within = omega arith; none = c.loop-i.invariant.2; here = λ h. absurd (omega arith) }
+    found_some c.args.block.now c.args.from c.requires c.as_chunks.result.0.now c.as_chunks.ensures.front c.as_chunks.ensures.front_len
+    c.first_near.result c.first_near.ensures c.unwrap_or.result c.unwrap_or.ensures c.first_newline.result c.first_newline.ensures
+    c.in_ok-after.after c.in_ok-after.was

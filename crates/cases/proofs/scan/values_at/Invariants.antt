@@ -1,9 +1,0 @@
--- `cases::scan::values_at` is safe and ends: the measure is the number of bytes left. Assumes nothing.
-use Rattle.std.proofs.Common.{◌≡◌, ◌-◌, ◌≤◌, length}
-use Rattle.cases.proofs.scan.values_at.Given as goal
-
-abbrev pub invariant-loop-at : goal.invariant-loop-at
-invariant-loop-at l = (l.count ≤ l.at) × (length l.values ≡ length l.initial.values)
-
-abbrev pub decreases-loop-at : goal.decreases-loop-at
-decreases-loop-at l = length l.line - l.at

@@ -1,2 +1,0 @@
--- What only the contracts of the inner functions cite. Assumes nothing.
-pub mod HoldsValue

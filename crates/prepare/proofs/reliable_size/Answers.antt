@@ -1,7 +1,0 @@
--- `prepare::reliable_size` meets its contract: there are more positions than roots of any code. Assumes nothing.
-use native.Mathlib.Omega.{arith}
-use Rattle.codes.proofs.ShapeLaws.{length_large}
-use Rattle.prepare.proofs.reliable_size.Goals as goal
-
-pub overflow_sub-result : goal.overflow_sub-result
-overflow_sub-result c = omega (arith, c.length_of.ensures.0, length_large _ c.requires.m_low c.requires.m_high)
