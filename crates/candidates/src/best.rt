@@ -11,7 +11,7 @@ pub struct Candidate {
     pub flips: u8,
 }
 
-// The nearest candidate so far, and how many were seen.
+// The nearest candidate so far, and how many were seen. That one more can be counted is no invariant: the count reaches its bound.
 #[derive(Clone, Copy)]
 pub struct Best {
     pub nearest: Option<Candidate>,

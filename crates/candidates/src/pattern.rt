@@ -1,4 +1,6 @@
-// What one pattern of flipped ranks makes: its symbols outside the reliable set, and the candidate if all are 0 or 1.
+// What one pattern of flipped ranks makes: its symbols outside the reliable set, and the candidate if all are 0 or 1. Numbers are widened
+// by `as`, which a proof reads at once, where `From` leaves it the clause of a call. That ranks and a table are a prepared word's own
+// speaks of two values, and stands in clauses.
 ghost use Rattle.std.specs.Prelude.{◌≡◌, ◌+◌, ◌^◌, ◌<◌};
 ghost use Rattle.search.specs.Best.{better};
 ghost use Rattle.search.specs.ByRank.{rank_weighed, tried};
@@ -24,7 +26,7 @@ fn weigh(p: Prepared, ranks: u64) -> u16
     distance
 }
 
-// That word, with its distance and the number of these ranks.
+// That word, with its distance and the number of these ranks, which is counted on the way, as the definition sums it.
 fn placed(p: Prepared, ranks: u64, distance: u16) -> Candidate
     requires { (ranks < 2 ^ (p.size + p.rows)) × (distance ≡ (rank_weighed (plan_of p) ranks).distance) }
     ensures { as_weighed result ≡ rank_weighed (plan_of p) ranks }

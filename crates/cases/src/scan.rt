@@ -1,7 +1,7 @@
 // What stands in a line: numbers, rows of bytes and rows of values.
 //
 // The numbers and rows of a line are known by their place: they stand after its first `=`, its second, and so on. A number that is not
-// there is 0.
+// there is 0, as the stored outputs have it.
 ghost use Rattle.std.specs.Prelude.{◌≡◌, ◌≢◌, ◌-◌, ◌≤◌, ◌∷◌, ◌++◌, All, IfSome, MatchOption, length};
 ghost use Rattle.std.specs.Iterator.{IsFinite};
 
@@ -40,7 +40,7 @@ pub fn row(line: &[u8], place: usize) -> &[u8]
 // The number that a word begins with. What does not fit 64 bits is left out.
 fn number_of(word: &[u8]) -> u64 {
     let digits = word.iter().map_while(|&b| char::from(b).to_digit(10));
-    digits.fold(0, |n: u64, d| (n % TENTH * 10).wrapping_add(d as u64))
+    digits.fold(0, |n: u64, d| (n % TENTH * 10).wrapping_add(u64::from(d)))
 }
 
 pub fn number(line: &[u8], place: usize) -> u64 {

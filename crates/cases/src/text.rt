@@ -28,7 +28,7 @@ pub fn put_number(number: u64) {
 
 // A byte, as two digits.
 pub fn put_byte(byte: u8) {
-    io::print_hex(STDOUT_FILENO, byte as u64, 2);
+    io::print_hex(STDOUT_FILENO, u64::from(byte), 2);
 }
 
 // The k-th of what a call answers: its numbers, the first eleven bytes of the buffer, and how many of the other bytes are not ff.

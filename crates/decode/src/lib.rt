@@ -10,7 +10,7 @@ ghost use Rattle.decode.specs.Outcome.{answer_of};
 use frame::refusal::Refusal;
 
 // What decode answers: a refusal's number and nothing else, or 0 and what is known of the word in the buffer. The number stands beside the
-// fields that count only where it is 0, since the C interface tells them so; `decoded` has them as a Result.
+// fields that count only where it is 0, since the C interface tells them so; `decoded` gives one without a refusal, or the refusal.
 #[derive(Clone, Copy)]
 pub struct Decoding {
     pub refusal: u8,

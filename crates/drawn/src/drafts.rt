@@ -36,7 +36,7 @@ pub fn chosen(list: &[u64], s: u16, x: u64) -> u64
     list[(x as usize % list.len()) >> s]
 }
 
-// The first codeword with so many ones, from a place of the list on; 0 where there is none.
+// The first codeword with so many ones, from a place of the list on; 0, a codeword too, where there is none: what is drawn has to stay.
 fn with_ones(list: &[u64], ones: u32, start: u64) -> u64 {
     (0..list.len() as u64)
         .map(|i| chosen(list, 0, start.wrapping_add(i)))
@@ -69,6 +69,7 @@ fn summing_to(mut word: [i8; 15], draft: Draft, sum: u64) -> [i8; 15]
     requires { sum ≤ 1920 }
 {
     let p = draft.wrong.trailing_zeros() as usize;
+    // none of the 15 is wrong
     if 15 <= p {
         return word;
     }

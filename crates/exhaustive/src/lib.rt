@@ -1,5 +1,6 @@
 // What decode and read have to answer on a word of 15 bits, and what demand 3 supposes, by the definitions of document 01 and Req 02 and
-// nothing of the decoder's or the reader's: for try_random, which compares.
+// nothing of the decoder's or the reader's: for try_random, which compares. That a position is below 15 and t and s are small are clauses
+// of a line each: types for them would be met in a function or two.
 #![tactic(auto)]
 
 pub mod setting; // a code, a shortening and an order

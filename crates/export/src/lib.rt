@@ -15,7 +15,8 @@ fn narrow(x: u32) -> u16
     u16::try_from(x).unwrap_or(u16::MAX)
 }
 
-// Writes the numbers over the first places of the lent memory, as many as there is room for; on a refusal none.
+// Writes the numbers over the first places of the lent memory, as many as there is room for; on a refusal none. The refusal comes by its
+// number, as the calls answer it.
 fn tell<T: Copy>(refusal: u8, numbers: &[T], memory: &mut [T])
     ensures { memory.new ≡ told refusal numbers.now memory.old }
 {

@@ -1,5 +1,6 @@
 // What each call refuses before it looks at a word: a function for each row of the paper's table, and one for each call, which gives the
-// refusal of the first row that is met, or the code.
+// refusal of the first row that is met, or the code. m, t and s come as numbers, as the calls take them (`encode_is_ours` and its kin);
+// what passes goes on as `Shortened`.
 ghost use Rattle.std.specs.Prelude.{◌≡◌, [], ◌∷◌, IfOk};
 ghost use Rattle.frame.specs.Refusal.{first_met, unknown_code, too_short, high_order, wrong_count, small_buffer, large_message};
 ghost use Rattle.frame.specs.Refusal.{code_refusal, header_refusal, encode_refusal, read_refusal, decode_refusal};

@@ -65,7 +65,7 @@ impl Field {
         sum
     }
 
-    // the inverse, 0 for 0; a table for each field, since each has a number of elements of its own
+    // the inverse, 0 for 0; a table for each field, until Req 04 takes them away; `as`, since with `usize::from` the proof did not close
     pub fn inverse(self, x: u8) -> u8
         requires { x < 2 ^ self.m }
         ensures { result ≡ inverse_of self.m x }

@@ -11,7 +11,7 @@ pub struct Number {
     pub size: u16,
 }
 
-// One to three digits, after a minus or none.
+// One to three digits, after a minus or none. By hand, since `parse` takes a plus sign and any number of zeros.
 fn read_digits(minus: bool, digits: &[u8]) -> Option<Number>
     ensures { result ≡ signed_in minus digits.now }
 {

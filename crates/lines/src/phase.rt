@@ -20,7 +20,7 @@ pub struct Answered {
     pub wrote: usize,
 }
 
-// The first line is the header: words follow, or the program ends.
+// The first line is the header: words follow, or the program ends. Nothing is printed exactly where words follow (`header_says`).
 fn answer_first(text: &[u8], out: &mut [u8]) -> Answered
     requires { 64 ≤ length out.old }
     ensures { AnswersLine Phase.First text.now out.old result out.new }

@@ -1,4 +1,5 @@
-// All patterns with few flips: each reliable rank, from rank 0 on, is either kept or flipped.
+// All patterns with few flips: each reliable rank, from rank 0 on, is either kept or flipped. Numbers are widened by `as`, which a proof
+// reads at once, where `From` leaves it the clause of a call.
 ghost use Rattle.std.specs.Prelude.{◌≡◌, ◌+◌, ◌-◌, ◌^◌, ◌<◌, ◌≤◌};
 ghost use Rattle.field.specs.Field.{◌⊕◌};
 ghost use Rattle.search.specs.Search.{patterns};

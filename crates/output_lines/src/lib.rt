@@ -1,4 +1,5 @@
-// The lines that are printed, put into a lent slice. Each function gives the number of its bytes.
+// The lines that are printed, put into a lent slice. Each function gives the number of its bytes. That the slice is long enough stands in
+// clauses: an array as its type would ask more of callers.
 #![tactic(auto)]
 
 ghost use Rattle.std.specs.Prelude.{◌≡◌, ◌+◌, ◌*◌, ◌≤◌, ◌<◌, length};
@@ -74,6 +75,7 @@ pub fn put_line(out: &mut [u8]) -> usize
     line.at
 }
 
+// The refusal is told by its number, as the calls answer it and `refused_line` says it.
 pub fn put_refused(number: u8, out: &mut [u8]) -> usize
     requires { 16 ≤ length out.old }
     ensures { Put (refused_line number) out.old result out.new }

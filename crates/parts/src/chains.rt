@@ -7,7 +7,8 @@ ghost use Rattle.parts.specs.Chains.{slot_of, Chained, At, Next};
 use crate::columns::Parts;
 use ranks::Rank;
 
-// 64 links, one for each rank, and after them 1,024 slots. Each is a byte, 0 for none: an Option would take two (fixed memory).
+// 64 links, one for each rank, and after them 1,024 slots. Each is an end, 0 for none: ends are compared as numbers, and 0 needs no case of
+// its own, where an Option would have one at each look-up.
 pub type Chains = [u8; 1088];
 
 // Where the chains have the slot of a part.
@@ -18,7 +19,7 @@ pub fn slot(part: u16) -> usize
 }
 
 // The chains of the ranks: for each rank one more than the rank before it in its slot, and for each slot one more than its last rank;
-// 0 where there is none. `size` stands beside the parts, which are 64 whatever the code is (fixed memory).
+// 0 where there is none. `size` stands beside the parts, as `Chained` has it.
 pub fn chain(parts: &Parts, size: usize) -> Chains
     requires { size ≤ 64 }
     ensures { Chained parts.now size result }

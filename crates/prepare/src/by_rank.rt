@@ -12,7 +12,7 @@ pub struct ByRank {
 }
 
 // All in one pass, from the last rank to the first: each bit goes in below those of the ranks after it. The pass goes along the order
-// itself, since a call of `position_at` would copy it at each turn.
+// itself, since a call of `position_at` would copy it at each turn. n stands beside the order, as `Gathers` has it.
 pub fn gather(order: &[Position; 63], reliability: &[u8; 63], hards: u64, n: usize) -> ByRank
     requires { (n ≤ 63) × Inside n order.now }
     ensures { Gathers n reliability.now hards order.now result }

@@ -25,7 +25,7 @@ pub struct Prepared {
     pub sides: u8,
     // the symbols of the unflipped pattern, by row
     pub base: [u8; 6],
-    // the position and the reliability of each rank
+    // the position and the reliability of each rank: two arrays, since document 01 names the first, and bytes lie closer
     pub order: [Position; 63],
     pub weight: [u8; 63],
     pub symbols: Symbols,

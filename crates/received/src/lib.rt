@@ -1,4 +1,5 @@
-// Hard decisions and reliabilities: of a value, and of all the values that were received.
+// Hard decisions and reliabilities: of a value, and of all the values that were received. Their number is bounded in clauses: a slice of at
+// most 63 as a type would be taken apart in each function.
 #![tactic(auto)]
 
 ghost use Rattle.std.specs.Prelude.{◌≡◌, ◌≤◌, length};

@@ -50,7 +50,7 @@ fn fail(name: &[u8], error: Error) {
 }
 
 // What the system's answer to a call means. A call that was not ready is given time at once, and a failure is said. An error goes by its
-// number and not by its kind, since `Means` speaks of the number and no clause of std's ties the two.
+// number and not by its kind, since `Means` speaks of the number, and no clause of a read or a write ties its error's kind to that.
 fn outcome_of(rt: &impl Clock, answer: Result<usize, Error>, lent: &[u8], name: &[u8]) -> Outcome
     ensures { Means answer lent.now result }
 {

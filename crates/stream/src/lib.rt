@@ -67,6 +67,7 @@ pub fn step(state: State, line: &mut [u8], block: &[u8], out: &mut [u8]) -> Step
     let mut current = state;
     let mut at = 0;
     let mut wrote = 0;
+    // Not a `for`: where a line ends is what `find_newline` finds from where the last one ended.
     while let Some(end) = find_newline(block, at) {
         let room = wrote + ANSWER;
         let answered = finish(current, line, &block[at..end], &mut out[wrote..room]);
@@ -82,7 +83,8 @@ pub fn step(state: State, line: &mut [u8], block: &[u8], out: &mut [u8]) -> Step
     }
 }
 
-// What the end of the input adds: a line whose newline is missing, or a missing header.
+// What the end of the input adds: a line whose newline is missing, or a missing header. It has a match of its own beside `phase::answer`'s,
+// since an empty rest is no line where words are awaited, and is a blank one where the header is.
 pub fn end(state: State, line: &[u8], out: &mut [u8]) -> usize
     requires ready { Ready state line.now }
     requires in_bounds { 64 ≤ length out.old }

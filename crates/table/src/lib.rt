@@ -65,7 +65,7 @@ fn put_column(
 }
 
 // All columns, from rank 0 on. The first `size` ranks are the reliable set, the `rows` after them the places outside: numbers beside the
-// order, which has the length of the longest word (fixed memory).
+// order, as `Numbered` has them.
 pub fn symbol_table(m: u8, order: [Position; 63], n: usize, size: usize, rows: usize) -> Symbols
     requires { Numbered m n size rows (place_in order) }
     ensures { Cells m size rows (place_in order) result }

@@ -4,7 +4,7 @@ use cases::text::{put_byte, put_number, put_text};
 // A number and the text before it.
 pub fn put(text: &[u8], n: u16) {
     put_text(text);
-    put_number(n as u64);
+    put_number(u64::from(n));
 }
 
 // A byte as it is, or as a backslash and two digits.

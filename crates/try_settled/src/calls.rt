@@ -19,7 +19,7 @@ pub fn encode_line(line: &[u8]) {
         number(line, 4),
         &mut space[..room],
     );
-    put_line(line, &[answer as u64], &space);
+    put_line(line, &[u64::from(answer)], &space);
 }
 
 pub fn read_line(line: &[u8]) {
@@ -34,7 +34,11 @@ pub fn read_line(line: &[u8]) {
     );
     put_line(
         line,
-        &[reading.refusal as u64, reading.message, reading.at as u64],
+        &[
+            u64::from(reading.refusal),
+            reading.message,
+            u64::from(reading.at),
+        ],
         &space,
     );
 }
@@ -65,10 +69,10 @@ fn decode_values(line: &[u8], values: &[i8]) {
     put_line(
         line,
         &[
-            decoding.refusal as u64,
-            decoding.distance as u64,
-            decoding.flips as u64,
-            decoding.candidates as u64,
+            u64::from(decoding.refusal),
+            u64::from(decoding.distance),
+            u64::from(decoding.flips),
+            u64::from(decoding.candidates),
         ],
         &space,
     );
