@@ -59,10 +59,11 @@ fn candidate(p: Prepared, ranks: u64, best: &mut Best)
     }
 }
 
-// One more pattern is seen, that in which the ranks of `flips` are flipped: it is dropped at its first symbol other than 0 or 1, where the
-// label leaves both loops, as document 01 ('Form by location') names it. The table `symbols` is that of the prepared word, lent, and
-// `base` stands in a variable: read from the prepared word they had it copied at each pattern, which made a decode up to 70 % longer at
-// order 3. `pattern` is kept out of its caller, `keep`, which calls itself: there it made a decode up to twice as long at order 3.
+// One more pattern is seen, that in which the ranks of `flips` are flipped: it is dropped at its first symbol other than 0 or 1, which is
+// known when the inner loop has no flip left, and from there the label leaves both loops, as document 01 ('Form by location') names it: so
+// the inner loop is no `for`, which would have ended by then. The table `symbols` is that of the prepared word, lent, and `base` stands in
+// a variable: read from the prepared word they had it copied at each pattern, which made a decode up to 70 % longer at order 3. `pattern`
+// is kept out of its caller, `keep`, which calls itself: there it made a decode up to twice as long at order 3.
 #[inline(never)]
 pub fn pattern(p: Prepared, symbols: &Symbols, flips: u64, best: &mut Best)
     requires { (symbols.now ≡ p.symbols) × (flips < 2 ^ p.size) × (best.old.count < most_counted) }
@@ -73,11 +74,15 @@ pub fn pattern(p: Prepared, symbols: &Symbols, flips: u64, best: &mut Best)
         let mut bits: u64 = 0;
         for q in 0..p.rows as usize {
             let mut symbol = base[q];
-            for rank in Ones(flips) {
+            let mut left = Ones(flips);
+            loop {
+                let Some(rank) = left.next() else {
+                    if 1 < symbol {
+                        break 'outside None;
+                    }
+                    break;
+                };
                 symbol ^= symbols[q * 63 + rank];
-            }
-            if 1 < symbol {
-                break 'outside None;
             }
             bits ^= (symbol as u64) << q;
         }

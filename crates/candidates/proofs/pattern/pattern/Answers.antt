@@ -1,5 +1,5 @@
 -- `pattern` meets its contract. In each turn of the inner loop the lowest flip that is left goes into the symbol; in each turn of the
--- outer one a symbol that is 0 or 1 goes into `bits`. Assumes nothing.
+-- outer one a symbol that is 0 or 1 goes into `bits`; at any other both are left. Assumes nothing.
 use mathlib.Core.Path.{◌≡◌, refl, sym, ap, subst, ◌∙◌}
 use Prim.Native.Nat.{ℕ, ◌<◌}
 use native.Mathlib.Omega.{arith}
@@ -15,21 +15,21 @@ use Rattle.candidates.specs.As.{as_best}
 use Rattle.candidates.proofs.PatternSteps.{summed_start, summed_turn, summed_low, summed_end, Binary, binary_start}
 use Rattle.candidates.proofs.PatternSteps.{binary_turn, tried_not, tried_is, differing_is, differing_lt}
 use Rattle.candidates.proofs.pattern.pattern.Goals as goal
-use Rattle.candidates.proofs.pattern.pattern.Goals.{In-Some, In-None, In-Some-bits}
-use Rattle.candidates.proofs.pattern.pattern.Goals.{then-loop-q-test+in-None+then-symbol-gt1, else-loop-q-test}
+use Rattle.candidates.proofs.pattern.pattern.Goals.{In-Some, In_default, In-Some-bits}
+use Rattle.candidates.proofs.pattern.pattern.Goals.{then-loop-q-test+in_default+then-symbol-gt1, else-loop-q-test}
 
 -- in a turn of the inner loop: the lowest flip that is left is a rank of the reliable set
-took_here : (c : In-Some) → Took c.loop-rank.rank-iterator.0 c.in-Some.rank c.next.new.self.0
+took_here : (c : In-Some) → Took c.loop-rank.left.0 c.in-Some.rank c.next.new.self.0
 took_here c = took _ _ _ _ c.in-Some.is c.next.ensures.steps
 
 low : (c : In-Some) → c.in-Some.rank < 61
 low c = let p = c.args.p in summed_low (plan_of p) p.fits _ _ _ _ c.loop-rank.invariant _ _ (took_here c)
 
 -- after the inner loop: the symbol is whole
-symbol : (c : In-None) → c.loop-rank.symbol ≡ rank_symbol (plan_of c.args.p) c.args.flips c.loop-q.q
+symbol : (c : In_default) → c.loop-rank.symbol ≡ rank_symbol (plan_of c.args.p) c.args.flips c.loop-q.q
 symbol c =
     let p = c.args.p in
-    summed_end (plan_of p) p.fits _ _ _ _ c.loop-rank.invariant (took_none _ _ _ c.in-None.is c.next.ensures.steps)
+    summed_end (plan_of p) p.fits _ _ _ _ c.loop-rank.invariant (took_none _ _ _ c.in_default.is c.next.ensures.steps)
 
 -- what is there is one number
 same : (o : Option ℕ) (a b : ℕ) → o ≡ Some a → o ≡ Some b → a ≡ b
@@ -39,7 +39,7 @@ same o a b e f = MatchOption-at_some ⊥ (λ k. a ≡ k) b f (subst (λ x. Match
 whole : (c : In-Some-bits) → Binary (plan_of c.args.p) c.args.flips c.in-Some-bits.bits c.args.p.rows
 whole c =
     elim c.loop-q-test.branch [
-      | then-loop-q-test+in-None+then-symbol-gt1 w ↦ absurd (none-some _ (sym w.bits-is ∙ c.in-Some-bits.is))
+      | then-loop-q-test+in_default+then-symbol-gt1 w ↦ absurd (none-some _ (sym w.bits-is ∙ c.in-Some-bits.is))
       | else-loop-q-test w ↦
           let o = c.loop-q in
           let end : o.q ≡ c.args.p.rows = omega (arith, w.loop-q-test.false, o.invariant.most) in
@@ -54,8 +54,7 @@ pub bounds-base-q : goal.bounds-base-q
 bounds-base-q c = omega (arith, c.args.p.fits.rows)
 
 pub loop-rank-init : goal.loop-rank-init
-loop-rank-init c =
-    rw c.into_iter-rank-iterator.ensures.into_iter_gives (summed_start (plan_of c.args.p) _ _ c.requires.1)
+loop-rank-init c = summed_start (plan_of c.args.p) _ _ c.requires.1
 
 pub loop-rank-preserved : goal.loop-rank-preserved
 unfolding ◌⊕◌
@@ -71,18 +70,18 @@ unfolding ◌⊕◌
 loop-q-preserved c =
     let p = c.args.p in
     binary_turn (plan_of p) p.fits c.args.flips c.loop-q.bits c.loop-q.q c.loop-rank.symbol c.loop-q.invariant c.loop-q-test.true
-    (symbol (goal.at.loop-q-preserved c).In-None) c.if-symbol-gt1.false
+    (symbol (goal.at.loop-q-preserved c).In_default) c.if-symbol-gt1.false
 
 -- a symbol other than 0 or 1 ends it
-pub returns-in_default : goal.returns-in_default
-returns-in_default c =
+pub returns-in_default-bits : goal.returns-in_default-bits
+returns-in_default-bits c =
     let p = c.args.p in
     elim c.loop-q-test.branch [
-      | then-loop-q-test+in-None+then-symbol-gt1 w ↦
-          let e = summed_end (plan_of p) p.fits _ _ _ _ w.loop-rank.invariant (took_none _ _ _ w.in-None.is w.next.ensures.steps) in
+      | then-loop-q-test+in_default+then-symbol-gt1 w ↦
+          let e = summed_end (plan_of p) p.fits _ _ _ _ w.loop-rank.invariant (took_none _ _ _ w.in_default.is w.next.ensures.steps) in
           sym (tried_not (plan_of p) c.args.flips c.loop-q.q (as_best c.args.best.now) w.loop-q-test.true
           (subst (λ (x : ℕ). 1 < x) e w.if-symbol-gt1.true))
-      | else-loop-q-test w ↦ absurd (c.in_default.not-Some _ w.bits-is)
+      | else-loop-q-test w ↦ absurd (c.in_default-bits.not-Some _ w.bits-is)
     ]
 
 pub candidate-requires : goal.candidate-requires
