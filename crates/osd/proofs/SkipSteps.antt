@@ -10,6 +10,7 @@ use Rattle.field.specs.Field.{◌⊕◌}
 use Rattle.field.proofs.XorLaws.{xor_lt}
 use Rattle.search.specs.Best.{Best}
 use Rattle.search.specs.Search.{patterns}
+use Rattle.search.specs.Plan.{Plan}
 use Rattle.search.specs.ByRank.{tried}
 use Rattle.search.specs.Part.{part_of, column_part}
 use Rattle.search.proofs.PartLaws.{part_flip, part_drops}
@@ -25,56 +26,63 @@ use Rattle.parts.proofs.ChainLaws.{last_slot, last_none}
 use Rattle.osd.specs.Inner.BestFrom.{best_from}
 use Rattle.osd.proofs.PatternCount.{tried_count, patterns_mono}
 
-module _ (p : Prepared) (parts chains : List ℕ) (tab : Tabled p parts chains) where
+-- of any plan, with the parts told in any k of its rows: that the plan of a prepared word is in its ranges is not used
+module _ (p : Plan) (k : ℕ) (few : k ≤ p.rows) (parts : List ℕ)
+    (columns : (j : ℕ) → j < p.size → get_or parts j 0 ≡ column_part p k j) where
   abbrev F : ℕ → ℕ
   F i = get_or parts i 0
 
-  drops : (f : ℕ) (x : Best) → (part_of (plan_of p) (told p) f ≡ 0 → ⊥) → tried (plan_of p) f x ≡ x
-  drops = part_drops (plan_of p) (told p) (omega arith)
+  drops : (f : ℕ) (x : Best) → (part_of p k f ≡ 0 → ⊥) → tried p f x ≡ x
+  drops = part_drops p k few
 
   -- a flip adds its column's part, as it is lent
-  part_after : (f i : ℕ) → i < p.size → part_of (plan_of p) (told p) (f ⊕ 2 ^ i) ≡ part_of (plan_of p) (told p) f ⊕ F i
-  part_after f i h = part_flip (plan_of p) (told p) f i h ∙ ap (λ (x : ℕ). part_of (plan_of p) (told p) f ⊕ x) (sym (tab.columns i h))
+  part_after : (f i : ℕ) → i < p.size → part_of p k (f ⊕ 2 ^ i) ≡ part_of p k f ⊕ F i
+  part_after f i h = part_flip p k f i h ∙ ap (λ (x : ℕ). part_of p k f ⊕ x) (sym (columns i h))
 
-  -- one flip more is made
-  pub made_more : (f g : Flips) (i : ℕ) → Made p f → i < p.size → g.ranks ≡ f.ranks ⊕ 2 ^ i → g.part ≡ f.part ⊕ F i → Made p g
-  made_more f g i m h r q = record {
-    low = rw r (xor_lt p.size f.ranks (2 ^ i) m.low (pow-lt h));
-    part = q ∙ ap (λ (x : ℕ). x ⊕ F i) m.part ∙ sym (part_after f.ranks i h) ∙ ap (part_of (plan_of p) (told p)) (sym r);
-  }
-
-  module _ (flips part : ℕ) (told_part : part ≡ part_of (plan_of p) (told p) flips) where
+  module _ (chains : List ℕ) (chained : Chained parts p.size chains) (flips part : ℕ) (told_part : part ≡ part_of p k flips) where
     -- a flip that the chains shut leads nowhere
-    shut_nowhere : (i : ℕ) → i < p.size → Shut chains (i + 1) (part ⊕ F i) → Nowhere (λ i. i) (tried (plan_of p)) p.size 2 flips i
+    shut_nowhere : (i : ℕ) → i < p.size → Shut chains (i + 1) (part ⊕ F i) → Nowhere (λ i. i) (tried p) p.size 2 flips i
     shut_nowhere i l shut =
         let z : ℕ = part ⊕ F i in
-        let e : part_of (plan_of p) (told p) flips ⊕ F i ≡ z = ap (λ (x : ℕ). x ⊕ F i) (sym told_part) in
-        two_nowhere (λ i. i) (tried (plan_of p)) p.size (part_of (plan_of p) (told p)) F drops part_after flips i l
+        let e : part_of p k flips ⊕ F i ≡ z = ap (λ (x : ℕ). x ⊕ F i) (sym told_part) in
+        two_nowhere (λ i. i) (tried p) p.size (part_of p k) F drops part_after flips i l
         (λ q. shut.some (sym e ∙ q))
         (λ h a b q. last_none parts p.size (slot_of z) h
-        (omega (arith, shut.none, tab.chained.heads z)) b (ap slot_of (q ∙ e)))
+        (omega (arith, shut.none, chained.heads z)) b (ap slot_of (q ∙ e)))
 
     -- a rank that is passed over leads nowhere
     next_nowhere : (from to may r : ℕ) → Next parts chains part from to may r → 0 < may → (i : ℕ) → r ≤ i → i < to → i < p.size
-        → Nowhere (λ i. i) (tried (plan_of p)) p.size may flips i
+        → Nowhere (λ i. i) (tried p) p.size may flips i
     next_nowhere from to zero r n some i a b l = absurd (omega arith)
     next_nowhere from to (suc zero) r n some i a b l =
-        last_nowhere (λ i. i) (tried (plan_of p)) p.size (part_of (plan_of p) (told p)) F drops part_after flips i l
+        last_nowhere (λ i. i) (tried p) p.size (part_of p k) F drops part_after flips i l
         (λ q. last_none parts to (slot_of part) i (omega (arith, n.one refl)) b (ap slot_of (q ∙ sym told_part)))
     next_nowhere from to (suc (suc zero)) r n some i a b l = shut_nowhere i l (n.two refl i a b)
-    next_nowhere from to (suc (suc (suc k))) r n some i a b l = absurd (omega (arith, n.more (omega arith)))
+    next_nowhere from to (suc (suc (suc j))) r n some i a b l = absurd (omega (arith, n.more (omega arith)))
 
+module _ (p : Prepared) (parts chains : List ℕ) (tab : Tabled p parts chains) where
+  -- one flip more is made
+  pub made_more : (f g : Flips) (i : ℕ) → Made p f → i < p.size → g.ranks ≡ f.ranks ⊕ 2 ^ i → g.part ≡ f.part ⊕ get_or parts i 0
+      → Made p g
+  made_more f g i m h r q = record {
+    low = rw r (xor_lt p.size f.ranks (2 ^ i) m.low (pow-lt h));
+    part = q ∙ ap (λ (x : ℕ). x ⊕ get_or parts i 0) m.part
+        ∙ sym (part_after (plan_of p) (told p) (omega arith) parts tab.columns f.ranks i h) ∙ ap (part_of (plan_of p) (told p)) (sym r);
+  }
+
+  module _ (flips part : ℕ) (told_part : part ≡ part_of (plan_of p) (told p) flips) where
     passed : (from to may r : ℕ) (x : Best) → Next parts chains part from to may r → to ≤ p.size → 0 < may
         → best_from p r may flips x ≡ best_from p to may flips x
     passed from to may r x n l some =
         search_run (λ i. i) (tried (plan_of p)) p.size r to may flips x n.high l (λ e. omega arith)
-        (λ k a b. next_nowhere from to may r n some k a b (omega arith))
+        (λ k a b. next_nowhere (plan_of p) (told p) (omega arith) parts tab.columns chains tab.chained flips part told_part
+        from to may r n some k a b (omega arith))
 
     -- where the chains have the next rank, first and after rank r
     pub at_first : (s may : ℕ) → s ≡ slot_of part → At parts chains part p.size s may
     at_first s may e one = ap (λ (u : ℕ). get_or chains u 0) e ∙ tab.chained.heads part
 
-    pub at_after : (r may : ℕ) → r < p.size → (may ≡ 1 → slot_of (F r) ≡ slot_of part) → At parts chains part r r may
+    pub at_after : (r may : ℕ) → r < p.size → (may ≡ 1 → slot_of (get_or parts r 0) ≡ slot_of part) → At parts chains part r r may
     at_after r may l slot one = tab.chained.links r l ∙ ap (last_in parts r) (slot one)
 
     -- all ranks that are left are kept, and from the last one back those are passed over that lead nowhere
