@@ -90,11 +90,36 @@ impl Field {
     }
 }
 
-// The inverse in the field of 2^m elements, 0 for 0. A function beside the method, since the theorem inverse_meets_its_contract speaks of
-// it, by m.
+// The same by m as a plain number, beside the methods: so docs/PROVED.md names them, and the theorem inverse_meets_its_contract `inverse`.
+
+// a times y
+pub fn double(m: u8, y: u8) -> u8
+    requires { (4 ≤ m) × (m ≤ 6) × (y < 2 ^ m) }
+    ensures { result ≡ times_alpha m y }
+{
+    Field::new(m).double(y)
+}
+
+// the product: the sum of a^i y over the coefficients i of x that are 1
+pub fn times(m: u8, x: u8, y: u8) -> u8
+    requires { (4 ≤ m) × (m ≤ 6) × (x < 2 ^ m) × (y < 2 ^ m) }
+    ensures { result ≡ times m x y }
+{
+    Field::new(m).times(x, y)
+}
+
+// the inverse, 0 for 0
 pub fn inverse(m: u8, x: u8) -> u8
     requires { (4 ≤ m) × (m ≤ 6) × (x < 2 ^ m) }
     ensures { result ≡ inverse_of m x }
 {
     Field::new(m).inverse(x)
+}
+
+// a^i times y; the power itself where y is 1
+pub fn alpha_times(m: u8, i: u8, y: u8) -> u8
+    requires { (4 ≤ m) × (m ≤ 6) × (y < 2 ^ m) }
+    ensures { result ≡ times m (alpha_to m i) y }
+{
+    Field::new(m).alpha_times(i, y)
 }
