@@ -2,6 +2,7 @@
 #![tactic(auto)]
 
 pub mod checks; // the first check that is met, in each call's order
-pub mod refusal; // the refusals and their numbers
+pub mod refusal; // the refusals and their numbers, and the number of each call's checks
 
 pub use checks::{decode_checks, encode_checks, header_checks, read_checks, shortened_code};
+pub use refusal::{TAKEN, decode_refusal, encode_refusal, header_refusal, read_refusal};

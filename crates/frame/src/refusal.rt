@@ -1,5 +1,13 @@
-// The refusals and their numbers.
+// The refusals and their numbers, and the number that each call's checks come to.
 ghost use Rattle.std.specs.Prelude.{◌≡◌, ◌<◌};
+ghost use Rattle.frame.specs.Refusal.{code_refusal, header_refusal, encode_refusal, read_refusal, decode_refusal};
+ghost use Rattle.frame.specs.Numbers.{number_of};
+
+use crate::checks::{decode_checks, encode_checks, header_checks, read_checks, shortened_code};
+use words::Shortened;
+
+// What stands for a refusal's number where nothing is refused.
+pub const TAKEN: u8 = 0;
 
 // Why a call says no.
 #[derive(Clone, Copy, PartialEq, Eq)]
@@ -36,4 +44,49 @@ impl Refusal {
     {
         self as u8
     }
+}
+
+// The number of what checks answer.
+fn number_of(checked: Result<Shortened, Refusal>) -> u8
+    ensures { result ≡ number_of checked }
+{
+    match checked {
+        Ok(_) => TAKEN,
+        Err(refusal) => refusal.number(),
+    }
+}
+
+// 1 and 2, with which every call begins.
+pub fn code_refusal(m: u16, t: u16, s: u16) -> u8
+    ensures { result ≡ code_refusal m t s }
+{
+    number_of(shortened_code(m, t, s))
+}
+
+// 1, 2, 7, 5.
+pub fn encode_refusal(m: u16, t: u16, s: u16, message: u64, room: usize) -> u8
+    ensures { result ≡ encode_refusal m t s message room }
+{
+    number_of(encode_checks(m, t, s, message, room))
+}
+
+// 1, 2, 5; 8, 9 and 10 are the reader's own.
+pub fn read_refusal(m: u16, t: u16, s: u16, room: usize) -> u8
+    ensures { result ≡ read_refusal m t s room }
+{
+    number_of(read_checks(m, t, s, room))
+}
+
+// 1, 2, 3: the checks that a header alone decides.
+pub fn header_refusal(m: u16, t: u16, s: u16, order: u16) -> u8
+    ensures { result ≡ header_refusal m t s order }
+{
+    number_of(header_checks(m, t, s, order))
+}
+
+// 1, 2, 3, 4, 5; 6 is the search's own.
+pub fn decode_refusal(m: u16, t: u16, s: u16, order: u16, values: usize, room: usize) -> u8
+    ensures { result ≡ decode_refusal m t s order values room }
+{
+    number_of(decode_checks(m, t, s, order, values, room))
 }
