@@ -44,7 +44,7 @@ fn decoded(
     ensures { DecodeAnswers m t s order soft.now buf.old (answer_of result) buf.new }
 {
     let shortened = frame::decode_checks(m, t, s, order, soft.len(), buf.len())?;
-    let prepared = prepare::prepare(shortened.code, soft);
+    let prepared = prepare::prepare(shortened.code.m as u8, shortened.code.t as u8, soft);
     let best = osd::patterns::search(prepared, order as u8);
     let Some(nearest) = best.nearest else {
         return Err(Refusal::NoCandidate);

@@ -1,7 +1,8 @@
 // The prepared word of the values received.
 ghost use Rattle.std.specs.Prelude.{◌≡◌, ◌-◌, ◌*◌, ◌≤◌, length};
 ghost use Rattle.field.specs.Field.{length_of};
-ghost use Rattle.search.specs.Plan.{Prepares};
+ghost use Rattle.codes.specs.Code.{Known};
+ghost use Rattle.search.specs.Plan.{Fits, Prepares};
 ghost use Rattle.prepare.specs.PlanOf.{plan_of};
 
 use crate::by_rank::{self, ByRank};
@@ -16,18 +17,22 @@ fn reliable_size(code: Code) -> usize
     code.length() - 2 * usize::from(code.t)
 }
 
-// The prepared word of the values received. Its numbers are in their ranges by its type.
-pub fn prepare(code: Code, soft: &[i8]) -> Prepared
-    requires { length soft.now ≤ length_of code.m }
-    ensures { Prepares code.m 1 (2 * code.t) soft.now (plan_of result) }
+// The prepared word of the values received. m and t are plain numbers to a caller, and the code that they name in here.
+pub fn prepare(m: u8, t: u8, soft: &[i8]) -> Prepared
+    requires { Known m t × (length soft.now ≤ length_of m) }
+    ensures { Prepares m 1 (2 * t) soft.now (plan_of result) × Fits (plan_of result) }
 {
+    let code = Code {
+        m: u16::from(m),
+        t: u16::from(t),
+    };
     let n = code.length();
     let size = reliable_size(code);
     let rows = n - size;
     let Received { hards, reliability } = received::receive(soft);
     let order = ranks::order::order_of(reliability, n);
     let ByRank { weight, bits } = by_rank::gather(&order, &reliability, hards, n);
-    let symbols = table::symbol_table(code.m as u8, order, n, size, rows);
+    let symbols = table::symbol_table(m, order, n, size, rows);
     let base = unflipped::row_sums(&symbols, bits, size);
     Prepared {
         size: size as u8,

@@ -23,7 +23,10 @@ passed c = let a = c.args in decode_checked a.m a.t a.s a.order a.soft.now a.buf
 
 pub prepare-prepared-requires : goal.prepare-prepared-requires
 prepare-prepared-requires c =
-    rw c.in_ok-shortened.ensures.code.m_is (omega (arith, (passed (goal.at.prepare-prepared-requires c).In_ok-shortened).count))
+    let shortened = c.in_ok-shortened in (
+      shortened.shortened.code.known,
+      rw shortened.ensures.code.m_is (omega (arith, (passed (goal.at.prepare-prepared-requires c).In_ok-shortened).count)),
+    )
 
 pub overflow_cast-order : goal.overflow_cast-order
 overflow_cast-order c = omega (arith, (passed (goal.at.overflow_cast-order c).In_ok-shortened).low)
@@ -35,7 +38,7 @@ search-best-requires c = (passed (goal.at.search-best-requires c).In_ok-shortene
 prepared : (c : After-search-best) → let a = c.args in Prepares a.m 1 (2 * a.t) a.soft.now (plan_of c.prepare-prepared.result)
 prepared c =
     let code = c.in_ok-shortened.ensures.code in
-    rw (code.m_is, code.t_is) at c.prepare-prepared.ensures
+    rw (code.m_is, code.t_is) at c.prepare-prepared.ensures.0
 
 -- after the search: no candidate is found, or the best is
 pub returns-in_default : goal.returns-in_default
