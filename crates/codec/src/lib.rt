@@ -23,7 +23,7 @@ fn encoded(m: u16, t: u16, s: u16, message: u64, buf: &mut [u8]) -> Result<(), R
     ensures { EncodeAnswers m t s message buf.old (number_of result) buf.new }
 {
     let code = encode_checks(m, t, s, message, buf.len())?.code;
-    words::put_word(word_of(code, message), code.bytes(), buf);
+    words::put_word(word_of(code.m, code.t, message), code.bytes(), buf);
     Ok(())
 }
 

@@ -8,7 +8,6 @@ ghost use Rattle.codec.specs.Faulty.{answer_of};
 use crate::fault::Fault;
 use crate::parity::word_of;
 use frame::refusal::Refusal;
-use gf::Field;
 use words::Shortened;
 
 // The lowest position from `from` on that holds a 1.
@@ -19,8 +18,8 @@ fn lowest_one(word: u64, from: usize) -> u8
     (from + (word >> from).trailing_zeros() as usize) as u8
 }
 
-// The pad bit, then the unsent bits, then the roots. What is left of the word when the codeword with its message is taken off has the
-// word's values at the code's roots, and fewer bits: none, where the word is a codeword.
+// The pad bit, then the unsent bits, then the word of its message; and only where that is another, the roots. What is left of the word when
+// the codeword with its message is taken off has the word's values at the code's roots, and fewer bits.
 pub fn message_of(short: Shortened, word: u64) -> Result<u64, Fault>
     ensures { answer_of result ≡ reading_after 0 short.code.m short.code.t short.s word }
 {
@@ -33,9 +32,10 @@ pub fn message_of(short: Shortened, word: u64) -> Result<u64, Fault>
         return Err(Fault::Unsent(lowest_one(word, sent)));
     }
     let message = word >> code.parity();
-    let left = word ^ word_of(code, message);
-    match roots::lowest_power(Field::new(code.m as u8), code.t as u8, left) {
-        Some(power) => Err(Fault::Root(power)),
-        None => Ok(message),
+    let coded = word_of(code.m, code.t, message);
+    if coded == word {
+        return Ok(message);
     }
+    let power = roots::lowest_power(code.m as u8, code.t as u8, word ^ coded);
+    Err(Fault::Root(power))
 }

@@ -1,6 +1,6 @@
 // The word of a message: the message at the top, and below it the parity that makes a codeword.
-ghost use Rattle.std.specs.Prelude.{◌≡◌, ◌+◌, ◌^◌, ◌<◌};
-ghost use Rattle.codes.specs.Code.{dimension_of, parity_of, generator_of};
+ghost use Rattle.std.specs.Prelude.{◌≡◌, ◌+◌, ◌^◌, ◌≤◌, ◌<◌};
+ghost use Rattle.codes.specs.Code.{Known, dimension_of, parity_of, generator_of};
 ghost use Rattle.codes.specs.Generator.{remainder_by, systematic};
 
 use words::Code;
@@ -14,6 +14,14 @@ fn generator_of(code: Code) -> u64
     ensures { result ≡ generator_of code.m code.t }
 {
     GENERATORS[code.place()]
+}
+
+// n - k, the number of parity bits.
+pub fn parity_bits(m: u16, t: u16) -> usize
+    requires { Known m t }
+    ensures { (result ≡ parity_of m t) × (result + dimension_of m t ≤ 63) }
+{
+    Code { m, t }.parity()
 }
 
 // What is left of a word when it is divided by the generator. At each place from the top, of what is left and its sum with the generator
@@ -33,10 +41,11 @@ fn remainder(code: Code, word: u64) -> u64
 }
 
 // The codeword whose high bits are the message.
-pub fn word_of(code: Code, message: u64) -> u64
-    requires { message < 2 ^ dimension_of code.m code.t }
-    ensures { result ≡ systematic code.m code.t message }
+pub fn word_of(m: u16, t: u16, message: u64) -> u64
+    requires { Known m t × (message < 2 ^ dimension_of m t) }
+    ensures { result ≡ systematic m t message }
 {
-    let moved = message << code.parity();
+    let code = Code { m, t };
+    let moved = message << parity_bits(m, t);
     moved ^ remainder(code, moved)
 }

@@ -1,18 +1,19 @@
 // The value of a word at a power of a, and the lowest power at which it is not zero (Req 02).
 #![tactic(auto)]
 
-ghost use Rattle.std.specs.Prelude.{◌≡◌, ◌+◌, ◌*◌, ◌^◌, ◌≤◌, ◌<◌, MatchOption};
+ghost use Rattle.std.specs.Prelude.{◌≡◌, ◌*◌, ◌^◌, ◌≤◌, ◌<◌};
 ghost use Rattle.field.specs.Field.{length_of};
-ghost use Rattle.field.specs.Lowest.{Lowest, lowest_of};
+ghost use Rattle.field.specs.Lowest.{lowest_of};
 ghost use Rattle.codes.specs.Codeword.{bit_of, value_at};
 
 use gf::Field;
 
 // The word's polynomial at a^e: the sum of a^(pe) over its ones, the lowest position first.
-pub fn value_at(field: Field, word: u64, e: u8) -> u8
-    requires { word < 2 ^ length_of field.m }
-    ensures { result ≡ value_at field.m (bit_of word) e }
+pub fn value_at(m: u8, word: u64, e: u8) -> u8
+    requires { (4 ≤ m) × (m ≤ 6) × (word < 2 ^ length_of m) }
+    ensures { result ≡ value_at m (bit_of word) e }
 {
+    let field = Field::new(m);
     let mut sum: u8 = 0;
     let mut power: u8 = 1;
     let mut rest = word;
@@ -27,16 +28,16 @@ pub fn value_at(field: Field, word: u64, e: u8) -> u8
     sum
 }
 
-// The lowest of the powers 1, .., 2t at which the word is not zero, if there is one. Only the odd ones are looked at, since it is one of
-// those (FaultyPowersAreOdd).
-pub fn lowest_power(field: Field, t: u8, word: u64) -> Option<u8>
-    requires { (t ≤ 3) × (word < 2 ^ length_of field.m) }
-    ensures { let f = value_at field.m (bit_of word) in MatchOption result (lowest_of 1 (2 * t) f ≡ 1 + 2 * t) (Lowest 1 (2 * t) f) }
+// The lowest of the powers 1, .., 2t at which the word is not zero; 2t + 1 where it is zero at all of them. Only the odd ones are looked
+// at, since it is one of those (FaultyPowersAreOdd).
+pub fn lowest_power(m: u8, t: u8, word: u64) -> u8
+    requires { (4 ≤ m) × (m ≤ 6) × (t ≤ 3) × (word < 2 ^ length_of m) }
+    ensures { result ≡ lowest_of 1 (2 * t) (value_at m (bit_of word)) }
 {
     for e in (1..2 * t).step_by(2) {
-        if value_at(field, word, e) != 0 {
-            return Some(e);
+        if value_at(m, word, e) != 0 {
+            return e;
         }
     }
-    None
+    2 * t + 1
 }

@@ -19,7 +19,10 @@ pub word_of-requires : goal.word_of-requires
 word_of-requires c =
     let a = c.args in
     let is = c.in_ok-code.ensures.code in
-    rw (is.m_is, is.t_is) (encode_small a.m a.t a.s a.message a.buf.now 0 c.in_ok-code.ensures.number (omega arith))
+    let code = c.in_ok-code.field-0.code in (
+      code.known,
+      rw (is.m_is, is.t_is) (encode_small a.m a.t a.s a.message a.buf.now 0 c.in_ok-code.ensures.number (omega arith)),
+    )
 
 pub put_word-requires : goal.put_word-requires
 put_word-requires c =

@@ -10,4 +10,4 @@ abbrev pub ZeroBelow : (ℕ → ℕ) → ℕ → Type 0
 ZeroBelow f e = (i : ℕ) → 1 ≤ i → i < e → f i ≡ 0
 
 abbrev pub invariant-loop-e : goal.invariant-loop-e
-invariant-loop-e l = (l.e % 2 ≡ 1) × (l.e ≤ 1 + 2 * l.t) × ZeroBelow (value_at l.field.m (bit_of l.word)) l.e
+invariant-loop-e l = (l.e % 2 ≡ 1) × (l.e ≤ 1 + 2 * l.t) × ZeroBelow (value_at l.m (bit_of l.word)) l.e

@@ -13,7 +13,7 @@ use Rattle.roots.proofs.value_at.Goals.{else-rest-eq1, then-rest-eq1}
 pub loop-rest-init : goal.loop-rest-init
 unfolding length_of
 loop-rest-init c =
-    let m = c.args.field.m in
+    let m = c.args.m in
     let F = laws m (omega arith) (omega arith) in
     (turn_first m F c.args.e c.args.word, omega (arith, F.n_pos), omega arith)
 
@@ -21,11 +21,11 @@ pub loop-rest-preserved : goal.loop-rest-preserved
 unfolding ◌⊕◌
 loop-rest-preserved c =
     let l = c.loop-rest in
-    let m = c.args.field.m in
+    let m = c.args.m in
     let e = c.args.e in
     let F = laws m (omega arith) (omega arith) in
     let v = value_at m (bit_of (l.rest / 2)) e in
-    let r : c.alpha_times-power.result ≡ times m (alpha_to m e) l.power = c.alpha_times-power.ensures in (
+    let r : c.alpha_times-power.result ≡ times m (alpha_to m e) l.power = rw c.new-field.ensures at c.alpha_times-power.ensures in (
       elim c.if-rest-eq1.branch [
         | then-rest-eq1 w ↦ ap₂ (λ (u p : ℕ). u ⊕ times m p v) w.sum-is r
             ∙ turn_odd m F e l.sum l.power l.rest (omega arith) (omega arith) (omega arith) ∙ l.invariant.0
@@ -39,7 +39,7 @@ loop-rest-preserved c =
 pub returns : goal.returns
 returns c =
     let l = c.loop-rest in
-    let m = c.args.field.m in
+    let m = c.args.m in
     let F = laws m (omega arith) (omega arith) in
     let z : l.rest ≡ 0 = omega arith in
     sym (turn_last m F c.args.e l.sum l.power)

@@ -8,7 +8,7 @@ use Rattle.roots.proofs.value_at.Given as goal
 
 abbrev pub invariant-loop-rest : goal.invariant-loop-rest
 invariant-loop-rest l =
-    let m = l.field.m in
+    let m = l.m in
     (l.sum ⊕ times m l.power (value_at m (bit_of l.rest) l.e) ≡ value_at m (bit_of l.word) l.e) × (l.power < 2 ^ m)
     × (l.rest < 2 ^ length_of m)
 
