@@ -2,7 +2,7 @@
 //
 // The numbers and rows of a line are known by their place: they stand after its first `=`, its second, and so on. A number that is not
 // there is 0, as the stored outputs have it.
-ghost use Rattle.std.specs.Prelude.{◌≡◌, ◌≢◌, ◌-◌, ◌≤◌, ◌∷◌, ◌++◌, All, IfSome, MatchOption, length};
+ghost use Rattle.std.specs.Prelude.{◌≡◌, ◌≢◌, ℕ, ◌-◌, ◌≤◌, ◌⊎◌, List, [], ◌∷◌, ◌++◌, All, IfSome, MatchOption, length};
 ghost use Rattle.std.specs.Iterator.{IsFinite};
 
 use crate::digits::hex_byte;
@@ -21,14 +21,18 @@ pub fn split_once(text: &[u8], byte: u8) -> Option<(&[u8], &[u8])>
 
 // What stands behind the next such byte: nothing where there is none.
 pub fn after(text: &[u8], byte: u8) -> &[u8]
-    ensures { length result.now ≤ length text.now - 1 }
+    ensures shorter { length result.now ≤ length text.now - 1 }
+    ensures rest { (before : List ℕ) × (text.now ≡ before ++ result.now) }
+    ensures behind { (All (λ b. b ≢ byte) text.now × (result.now ≡ []))
+        ⊎ ((before : List ℕ) × All (λ b. b ≢ byte) before × (text.now ≡ before ++ byte ∷ result.now)) }
 {
     split_once(text, byte).map_or(&[], |(_, behind)| behind)
 }
 
 // The row of a place, and what stands after it in the line.
 pub fn row(line: &[u8], place: usize) -> &[u8]
-    ensures { length result.now ≤ length line.now }
+    ensures shorter { length result.now ≤ length line.now }
+    ensures rest { (before : List ℕ) × (line.now ≡ before ++ result.now) }
 {
     let mut rest = line;
     for _ in 0..place {
