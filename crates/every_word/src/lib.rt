@@ -2,9 +2,9 @@
 // every power.
 #![tactic(auto)]
 
-ghost use Rattle.std.specs.Prelude.{◌≤◌};
+ghost use Rattle.std.specs.Prelude.{◌≡◌, ◌≤◌, ◌↔◌, IsTrue};
 
-use exhaustive::reader::{Fault, read};
+use exhaustive::reader::{Fault, Told, read};
 use std::fmt;
 use tally::count;
 
@@ -12,26 +12,26 @@ use tally::count;
 // and at the powers 1, 3 and 5.
 #[derive(Clone, Copy, Default)]
 pub struct Reads {
-    words: u64,
-    differ: u64,
-    taken: u64,
-    pad: u64,
-    unsent: u64,
-    root_1: u64,
-    root_3: u64,
-    root_5: u64,
+    pub words: u64,
+    pub differ: u64,
+    pub taken: u64,
+    pub pad: u64,
+    pub unsent: u64,
+    pub root_1: u64,
+    pub root_3: u64,
+    pub root_5: u64,
 }
 
-// All of read's answer: a refusal's number, with its place or 0, and message 0. The numbers are read's answer to C hosts, written here once
-// more.
-pub fn same_reading(reading: codec::Reading, told: Result<u64, Fault>) -> bool {
-    let (refusal, message, at) = match told {
-        Ok(message) => (0, message, 0),
-        Err(Fault::Pad) => (8, 0, 0),
-        Err(Fault::Unsent(position)) => (9, 0, position),
-        Err(Fault::Root(power)) => (10, 0, power),
-    };
-    (reading.refusal, reading.message, usize::from(reading.at)) == (refusal, message, at)
+// All of read's answer.
+pub fn same_reading(reading: codec::Reading, told: Told) -> bool
+    ensures { IsTrue result
+        ↔ ((reading.refusal ≡ told.refusal) × (reading.message ≡ told.message) × (reading.at ≡ told.at)) }
+{
+    (
+        u64::from(reading.refusal),
+        reading.message,
+        u64::from(reading.at),
+    ) == (told.refusal, told.message, told.at)
 }
 
 impl Reads {
@@ -42,7 +42,7 @@ impl Reads {
         let told = read(u64::from(w), t, s);
         let reading = codec::read(4, t, s, &w.to_le_bytes());
         count(&mut self.words, true);
-        count(&mut self.differ, !same_reading(reading, told));
+        count(&mut self.differ, !same_reading(reading, told.into()));
         let place = match told {
             Ok(_) => &mut self.taken,
             Err(Fault::Pad) => &mut self.pad,

@@ -1,5 +1,5 @@
 // What read has to answer on a word of 15 bits with the pad bit above them: position by position, and power by power.
-ghost use Rattle.std.specs.Prelude.{◌≤◌, ◌<◌};
+ghost use Rattle.std.specs.Prelude.{◌≡◌, ℕ, ◌≤◌, ◌<◌, Err, IfOk};
 
 use crate::roots::{lowest_power, powers};
 
@@ -12,6 +12,36 @@ pub enum Fault {
     Unsent(usize),
     // the lowest power at which the word is not zero
     Root(usize),
+}
+
+// Read's answer in numbers, any of them: its refusal, or 0 where a word is taken; the word's message, and the place at fault, or 0.
+#[derive(Clone, Copy)]
+pub struct Told {
+    pub refusal: u64,
+    pub message: u64,
+    pub at: u64,
+}
+
+// The numbers are read's answer to C hosts, written here once more.
+impl From<Result<u64, Fault>> for Told {
+    fn from(told: Result<u64, Fault>) -> Told
+        ensures taken { IfOk told (λ m. result ≡ record { refusal = 0; message = m; at = 0 }) }
+        ensures pad { told ≡ Err Fault.Pad → result ≡ record { refusal = 8; message = 0; at = 0 } }
+        ensures unsent { (p : ℕ) → told ≡ Err (Fault.Unsent p) → result ≡ record { refusal = 9; message = 0; at = p } }
+        ensures root { (e : ℕ) → told ≡ Err (Fault.Root e) → result ≡ record { refusal = 10; message = 0; at = e } }
+    {
+        let (refusal, message, at) = match told {
+            Ok(message) => (0, message, 0),
+            Err(Fault::Pad) => (8, 0, 0),
+            Err(Fault::Unsent(position)) => (9, 0, position as u64),
+            Err(Fault::Root(power)) => (10, 0, power as u64),
+        };
+        Told {
+            refusal,
+            message,
+            at,
+        }
+    }
 }
 
 // The number of parity bits.

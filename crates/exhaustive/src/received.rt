@@ -1,7 +1,11 @@
 // A received word of 15 values: its hard decisions, and the value with a hard decision and a size.
+ghost use Rattle.std.specs.Prelude.{◌≡◌, ◌≢◌, ◌%◌, pos, neg_ℤ};
 
 // The value with a hard decision and a size, as far as there is one: 0 has hard decision 0, and 128 goes with 1 alone.
-pub fn value_with(bit: u64, size: u64) -> i8 {
+pub fn value_with(bit: u64, size: u64) -> i8
+    ensures zero { bit ≡ 0 → result ≡ pos (size % 128) }
+    ensures one { bit ≢ 0 → result ≡ neg_ℤ (pos (size % 129)) }
+{
     if bit == 0 {
         (size % 128) as i8
     } else {

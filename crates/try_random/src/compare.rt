@@ -36,7 +36,7 @@ fn same_buffer(buf: &[u8; 5], fill: u8, written: Option<u64>) -> bool {
 
 pub fn compare(setting: Setting, values: &[i8; 15], fill: u8) -> Outcome {
     let Setting { t, s, order, .. } = setting;
-    let found = search(setting, values);
+    let found = search(setting.codewords, values, t, order);
     let mut buf = [fill; 5];
     let answer = decode::decode(4, t, s, order, &values[..15 - usize::from(s)], &mut buf);
     let word = (answer.refusal == 0).then(|| word_in(&buf));
@@ -46,6 +46,9 @@ pub fn compare(setting: Setting, values: &[i8; 15], fill: u8) -> Outcome {
         tied: found.nearest.is_some_and(|nearest| 1 < nearest.tied),
         word,
         unsent: word.is_some_and(|word| word >> (15 - s) != 0),
-        read: word.is_none_or(|word| same_reading(codec::read(4, t, s, &buf), read(word, t, s))),
+        read: word.is_none_or(|word| same_reading(
+            codec::read(4, t, s, &buf),
+            read(word, t, s).into(),
+        )),
     }
 }
