@@ -23,23 +23,23 @@ pub struct Outcome {
 // came back.
 #[derive(Clone, Copy, Default)]
 pub struct Sent {
-    words: u64,
-    short: u64,
-    other: u64,
+    pub words: u64,
+    pub short: u64,
+    pub other: u64,
 }
 
 // Words that decode was given; those on which it differs; those that it refuses; those with several nearest candidates; those whose answer
 // has a one in an unsent place; and those on whose answer read differs. And the words that were sent.
 #[derive(Clone, Copy, Default)]
 pub struct Tally {
-    words: u64,
-    differ: u64,
-    refused: u64,
-    tied: u64,
-    unsent: u64,
-    misread: u64,
-    one_below: Sent,
-    at_bound: Sent,
+    pub words: u64,
+    pub differ: u64,
+    pub refused: u64,
+    pub tied: u64,
+    pub unsent: u64,
+    pub misread: u64,
+    pub one_below: Sent,
+    pub at_bound: Sent,
 }
 
 // One more, where a test passes.
