@@ -1,4 +1,6 @@
 // Random received words of several kinds.
+ghost use Rattle.std.specs.Prelude.{◌≡◌, ◌≤◌};
+
 use crate::random::drawn_word;
 use exhaustive::received::value_with;
 
@@ -17,6 +19,27 @@ pub enum Kind {
     NoisyTied,
     // a noisy codeword with sizes of 0 to 3
     NoisySmall,
+}
+
+// Any number is that of a kind: the last has all above its own.
+impl From<u64> for Kind {
+    fn from(number: u64) -> Kind
+        ensures any { number ≡ 0 → result ≡ Kind.Any }
+        ensures small { number ≡ 1 → result ≡ Kind.Small }
+        ensures extreme { number ≡ 2 → result ≡ Kind.Extreme }
+        ensures noisy { number ≡ 3 → result ≡ Kind.Noisy }
+        ensures tied { number ≡ 4 → result ≡ Kind.NoisyTied }
+        ensures last { 5 ≤ number → result ≡ Kind.NoisySmall }
+    {
+        match number {
+            0 => Kind::Any,
+            1 => Kind::Small,
+            2 => Kind::Extreme,
+            3 => Kind::Noisy,
+            4 => Kind::NoisyTied,
+            _ => Kind::NoisySmall,
+        }
+    }
 }
 
 // A bit that is wrong once in eight times.
@@ -45,8 +68,9 @@ fn random_value(kind: Kind, bit: u64, x: u64) -> i8 {
     }
 }
 
-// A word of a kind, near a codeword in those kinds that have one; positions from `sent` on are unsent and count as 127.
-pub fn random_word(kind: Kind, codeword: u64, sent: usize, seed: u64) -> [i8; 15] {
+// A word of the kind of a number, near a codeword in those kinds that have one; positions from `sent` on are unsent and count as 127.
+pub fn random_word(kind: u64, codeword: u64, sent: usize, seed: u64) -> [i8; 15] {
+    let kind = Kind::from(kind);
     drawn_word(
         |p, x| random_value(kind, (codeword >> p) % 2, x),
         sent,

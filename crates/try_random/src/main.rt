@@ -60,7 +60,12 @@ fn made_word(setting: Setting, making: Making, seed: u64) -> SentWord {
         Making::Random(kind) => {
             let codeword = chosen(setting.codewords, 0, drawn(seed));
             SentWord {
-                word: random_word(kind, codeword, 15 - usize::from(setting.s), next(seed)),
+                word: random_word(
+                    kind as u64,
+                    codeword,
+                    15 - usize::from(setting.s),
+                    next(seed),
+                ),
                 codeword,
             }
         }
