@@ -1,12 +1,12 @@
 -- `decode::decoded` meets its contract: laws over named places of the code, then its goals. Assumes nothing.
-use mathlib.Core.Path.{◌≡◌, sym, subst}
+use mathlib.Core.Path.{◌≡◌, sym, ap, subst}
 use mathlib.Core.Bool.{true, not}
 use Rattle.std.specs.Prelude.{Option, Some}
 use mathlib.Core.List.{List}
 use Prim.Native.Nat.{ℕ, ◌*◌}
 use native.Mathlib.Omega.{arith}
 use lib.ListN.{length}
-use Rattle.words.specs.Packing.{written}
+use Rattle.words.specs.Packing.{bytes_of, written}
 use Rattle.frame.proofs.RefusalLaws.{DecodePassed}
 use Rattle.search.specs.Plan.{Prepares}
 use Rattle.prepare.specs.PlanOf.{plan_of}
@@ -65,8 +65,8 @@ finds c x e after =
 
 pub put_word-requires : goal.put_word-requires
 put_word-requires c =
-    let code = c.in_ok-shortened.ensures.code in
-    rw (c.bytes-width.ensures.bytes, code.m_is) (passed (goal.at.put_word-requires c).In_ok-shortened).room
+    let room = (passed (goal.at.put_word-requires c).In_ok-shortened).room in
+    omega (arith, c.bytes-width.ensures.bytes, ap bytes_of c.in_ok-shortened.ensures.code.m_is, room)
 
 pub returns : goal.returns
 unfolding written
