@@ -90,7 +90,7 @@ impl Field {
     }
 }
 
-// The same by m as a plain number, beside the methods: so docs/PROVED.md names them, and the theorem inverse_meets_its_contract `inverse`.
+// The same by m as a plain number, for callers that hold no `Field`; the theorem inverse_meets_its_contract speaks of this `inverse`.
 
 // a times y
 pub fn double(m: u8, y: u8) -> u8
