@@ -21,7 +21,7 @@ pub enum Kind {
     NoisySmall,
 }
 
-// Any number is that of a kind: the last has all above its own.
+// The kinds by their numbers, as `as` has them, and any number is one of a kind: the last has all above its own.
 impl From<u64> for Kind {
     fn from(number: u64) -> Kind
         ensures any { number ≡ 0 → result ≡ Kind.Any }
