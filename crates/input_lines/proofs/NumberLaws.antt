@@ -2,14 +2,15 @@
 --   plain, plain_is     a header's number
 --   valued, valued_is   a word line's value
 --   number_full, value_full   each has a byte
+--   value_short               and a value has no more than four
 -- Assumes nothing.
 use mathlib.Core.Path.{◌≡◌, refl, sym, ap, ◌∙◌}
 use mathlib.Core.Bool.{Bool, true, false, cond, ◌&&◌, true≢false}
 use mathlib.Core.List.{List, [], ◌∷◌}
-use Prim.Native.Nat.{ℕ, suc, ◌<◌}
+use Prim.Native.Nat.{ℕ, suc, ◌+◌, ◌<◌, ◌≤◌}
 use native.Mathlib.Omega.{arith}
 use borrow.Author.Tests.{ne_eqb}
-use lib.Dec.{T, leb, leb→le}
+use lib.Dec.{T, leb, eqb, leb→le}
 use lib.IntN.{ℤ}
 use lib.ListN.{length}
 use Rattle.field.proofs.TestLaws.{and_left, and_right, is_true, is_false}
@@ -84,3 +85,24 @@ pub value_full : (w : List ℕ) → T (is_value w) → 0 < length w
 unfolding is_value is_number
 value_full [] t = absurd t
 value_full (b ∷ w) t = omega arith
+
+-- a value has no more than four bytes
+minus_one : (w : List ℕ) → length w ≤ length (after_minus w) + 1
+minus_one [] = omega arith
+minus_one (b ∷ w) = go (eqb b 45)
+  where
+    go : (t : Bool) → length (b ∷ w) ≤ length (cond t w (b ∷ w)) + 1
+    go true = omega arith
+    go false = omega arith
+
+number_short : (w : List ℕ) → T (is_number w) → length w ≤ 3
+unfolding is_number
+number_short w t =
+    leb→le (length w) 3 (and_right (leb 1 (length w)) (leb (length w) 3) (and_left (leb 1 (length w) && leb (length w) 3) (all_digits w) t))
+
+pub value_short : (w : List ℕ) → T (is_value w) → length w ≤ 4
+unfolding is_value
+value_short w t =
+    let n = number_short (after_minus w)
+    (and_left (is_number (after_minus w)) (leb (number_of (after_minus w)) (cond (negative w) 128 127)) t) in
+    omega (arith, minus_one w, n)

@@ -3,6 +3,7 @@ ghost use Rattle.std.specs.Prelude.{◌≡◌, ◌≤◌, cond, Some, None, IfSo
 ghost use Rattle.input_lines.specs.WordLine.{is_value, value_of, values_of};
 
 use crate::LONGEST;
+use items::cut::Items;
 use items::read_number;
 
 // A number from -128 to 127.
@@ -26,7 +27,7 @@ pub fn read_values(text: &[u8], values: &mut [i8; 256]) -> Option<usize>
         return None;
     }
     let mut count = 0;
-    for item in text.split(|b| *b == b' ') {
+    for item in Items(Some(text)) {
         values[count] = read_value(item)?;
         count += 1;
     }

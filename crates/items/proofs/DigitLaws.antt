@@ -14,6 +14,7 @@ use native.Mathlib.Omega.{arith}
 use borrow.Author.Tests.{lt-leb, eq-eqb, ne_eqb}
 use lib.Dec.{T, leb, leb→le}
 use lib.ListN.{length, get_or, take, drop}
+use lib.Seq.{take-length}
 use Rattle.field.proofs.TestLaws.{and_left}
 use Rattle.std.specs.Prelude.{Option, Some, None}
 use Rattle.items.specs.Line.{is_digit, all_digits, is_number, number_of}
@@ -73,17 +74,13 @@ module _ (minus : Bool) where
   three (x ∷ y ∷ z ∷ w ∷ digits) l a b d = absurd (omega arith)
 
 -- by its first byte, an item is a number with a minus or without
-take_all : (digits : List ℕ) → take (length digits) digits ≡ digits
-take_all [] = refl
-take_all (b ∷ digits) = ap (λ (l : List ℕ). b ∷ l) (take_all digits)
-
 pub number_minus : (item : List ℕ) → 1 ≤ length item → get_or item 0 0 ≡ 45
     → number_in item ≡ signed_in true (take (length item - 1) (drop 1 item))
 unfolding number_in
 number_minus [] l e = absurd (omega arith)
 number_minus (b ∷ item) l e =
     let n : suc (length item) - 1 ≡ length item = omega arith in
-    rw (eq-eqb b 45 e, n, take_all item)
+    rw (eq-eqb b 45 e, n, take-length item)
 
 pub number_plain : (item : List ℕ) → (1 ≤ length item → get_or item 0 0 ≡ 45 → ⊥) → number_in item ≡ signed_in false item
 unfolding number_in

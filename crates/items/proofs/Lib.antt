@@ -1,2 +1,3 @@
 pub mod DigitLaws
+pub mod CutLaws
 pub mod SplitLaws

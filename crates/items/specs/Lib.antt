@@ -1,2 +1,3 @@
 pub mod Line
 pub mod Number
+pub mod Cut

@@ -1,6 +1,8 @@
 // What an item of a line is, as a number: numbers of all lines are read here.
 #![tactic(auto)]
 
+pub mod cut; // cut.rt: a line, item by item
+
 ghost use Rattle.std.specs.Prelude.{◌≡◌, ◌-◌, cond, Some, None};
 ghost use Rattle.items.specs.Line.{is_digit};
 ghost use Rattle.items.specs.Number.{signed_in, number_in};
@@ -38,6 +40,7 @@ fn read_digits(minus: bool, digits: &[u8]) -> Option<Number>
 }
 
 // What the bytes between two spaces say: a number with a minus or none, or no number.
+#[inline(always)]
 pub fn read_number(item: &[u8]) -> Option<Number>
     ensures { result ≡ number_in item.now }
 {

@@ -6,6 +6,7 @@ use lib.ListN.{length, take, drop}
 use Rattle.items.specs.Line.{items}
 use Rattle.input_lines.specs.WordLine.{is_value, value_of}
 use Rattle.input_lines.proofs.ReadSteps.{Reading, bytes_of}
+use Rattle.input_lines.proofs.ValuesSteps.{Uncut}
 use Rattle.input_lines.proofs.word_line.read_values.Given as goal
 
 abbrev pub invariant-loop-item : goal.invariant-loop-item
@@ -15,5 +16,6 @@ invariant-loop-item l = record {
   turns : l.count ≡ length l.yielded;
   fits : l.count ≤ 256;
   room : 2 * l.count + bytes_of (drop l.count (items l.text)) ≤ length l.text + 1;
+  uncut : Uncut (items l.text) l.count;
   reading : Reading is_value value_of l.text (take l.count l.values) (drop l.count (items l.text));
 }
