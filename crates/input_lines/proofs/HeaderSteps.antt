@@ -5,15 +5,17 @@
 --   left_wrong, left_none       an item that is no number, no item more: which header the line is
 --   one, two, three   after so many numbers
 --   numbers_three, fifth, numbers_four   three numbers and no item more, four and an item more, four and none
+--   header_of_three, header_of_four      the header of the first three of four numbers, and of all four
 --   ended        an iterator that has ended yields nothing more
 -- Assumes nothing.
 use mathlib.Core.Path.{◌≡◌, refl, sym, ap}
 use mathlib.Core.Bool.{Bool, true, false, cond, ◌&&◌, and-false, true≢false}
 use mathlib.Core.List.{List, [], ◌∷◌, ◌++◌, map}
 use Prim.Native.Nat.{ℕ, ◌≤◌, ◌<◌}
+use native.Mathlib.Omega.{arith}
 use borrow.Author.Tests.{le-leb, lt-leb}
 use lib.Dec.{leb}
-use lib.ListN.{length}
+use lib.ListN.{length, get_or, take}
 use denote.Param.Members.{Mut}
 use denote.Ref.{Bor}
 use Rattle.std.specs.Prelude.{Option, Some, None, is_some}
@@ -23,6 +25,21 @@ use Rattle.items.specs.Line.{line_fits, items, is_number, number_of, every}
 use Rattle.input_lines.specs.Header.{header_with, header_in, header_of}
 use Rattle.input_lines.proofs.ReadSteps.{Reading, reading_begin, reading_more, reading_wrong, reading_end, reading_all}
 use Rattle.input_lines.proofs.ReadSteps.{refused, taken}
+
+pub header_of_three : (l : List ℕ) → length l ≡ 4
+    → header_in (take 3 l) ≡ Some (header_with (get_or l 0 0) (get_or l 1 0) (get_or l 2 0) (get_or l 1 0))
+header_of_three [] h = absurd (omega arith)
+header_of_three (a ∷ []) h = absurd (omega arith)
+header_of_three (a ∷ b ∷ []) h = absurd (omega arith)
+header_of_three (a ∷ b ∷ c ∷ l) h = refl
+
+pub header_of_four : (l : List ℕ) → length l ≡ 4
+    → header_in (take 4 l) ≡ Some (header_with (get_or l 0 0) (get_or l 1 0) (get_or l 2 0) (get_or l 3 0))
+header_of_four [] h = absurd (omega arith)
+header_of_four (a ∷ []) h = absurd (omega arith)
+header_of_four (a ∷ b ∷ []) h = absurd (omega arith)
+header_of_four (a ∷ b ∷ c ∷ []) h = absurd (omega arith)
+header_of_four (a ∷ b ∷ c ∷ d ∷ l) h = refl
 
 not_fit : (text : List ℕ) → (line_fits text && every is_number (items text)) ≡ false → header_of text ≡ None
 unfolding header_of
