@@ -16,7 +16,7 @@ use borrow.Author.Tests.{le-leb, lt-leb, eq-eqb, ne_eqb}
 use lib.Dec.{eqb}
 use lib.ListN.{length, get_or, take, drop, length-take, length-drop}
 use lib.Seq.{take-length}
-use Rattle.std.proofs.lemmas.List.{get_or-take}
+use Rattle.std.proofs.lemmas.List.{get_or-take, take_all}
 use Rattle.items.specs.Line.{items}
 use Rattle.items.specs.Cut.{cut_off}
 
@@ -86,13 +86,12 @@ module _ (text : List ℕ) where
         le-leb (length (take end text)) 4 (omega (arith, length-take end text)),
       )
 
-  pub cut_found : (n end : ℕ) → n ≡ min (length text) 5 → end < length (take n text) → get_or (take n text) end 0 ≡ 32
-      → Spaceless end (take n text)
+  pub cut_found : (end : ℕ) → end < length (take 5 text) → get_or (take 5 text) end 0 ≡ 32 → Spaceless end (take 5 text)
       → cut_off (items text) ≡ take end text ∷ cut_off (items (take (length text - (end + 1)) (drop (end + 1) text)))
-  cut_found n end m l e s =
-      let h : end < n = omega (arith, length-take n text) in
-      cut_some end (omega (arith, length-take n text)) (omega arith) (sym (get_or-take n text end 0 h) ∙ e)
-      (λ k i. λ f. s k i (get_or-take n text k 0 (omega arith) ∙ f))
+  cut_found end l e s =
+      let h : end < 5 = omega (arith, length-take 5 text) in
+      cut_some end (omega (arith, length-take 5 text)) (omega arith) (sym (get_or-take 5 text end 0 h) ∙ e)
+      (λ k i. λ f. s k i (get_or-take 5 text k 0 (omega arith) ∙ f))
 
   cut_short : length text ≤ 4 → Spaceless (length text) text → cut_off (items text) ≡ text ∷ []
   unfolding cut_off
@@ -102,17 +101,15 @@ module _ (text : List ℕ) where
   unfolding cut_off
   cut_long r = rw (r.parts, lt-leb (length r.first) 4 (omega (arith, r.long)), r.same)
 
-  pub cut_none : (n : ℕ) → n ≡ min (length text) 5 → Spaceless (length (take n text)) (take n text)
+  pub cut_none : (n : ℕ) → n ≡ min (length text) 5 → Spaceless (length (take 5 text)) (take 5 text)
       → cut_off (items text) ≡ take n text ∷ []
   cut_none n e s =
-      let h : Spaceless n text =
-      λ k i. λ f. s k (omega (arith, length-take n text)) (get_or-take n text k 0 i ∙ f) in
+      let h : Spaceless n text = λ k i. λ f. s k (omega (arith, length-take 5 text)) (get_or-take 5 text k 0 (omega arith) ∙ f) in
       by_cases (dec_le (length text) 4) (short h) (long h)
     where
       short : Spaceless n text → length text ≤ 4 → cut_off (items text) ≡ take n text ∷ []
       short h l =
-          let whole : n ≡ length text = omega arith in
-          rw (whole, take-length text) (cut_short l (λ k i. h k (omega arith)))
+          rw (take_all n text (omega arith)) (cut_short l (λ k i. h k (omega arith)))
 
       long : Spaceless n text → (length text ≤ 4 → ⊥) → cut_off (items text) ≡ take n text ∷ []
       long h l =

@@ -44,8 +44,9 @@ fn read_digits(minus: bool, digits: &[u8]) -> Option<Number>
 pub fn read_number(item: &[u8]) -> Option<Number>
     ensures { result ≡ number_in item.now }
 {
-    match item {
-        [b'-', digits @ ..] => read_digits(true, digits),
-        _ => read_digits(false, item),
-    }
+    let (minus, digits) = match item {
+        [b'-', digits @ ..] => (true, digits),
+        _ => (false, item),
+    };
+    read_digits(minus, digits)
 }

@@ -1,10 +1,7 @@
 -- `next` of `cut::Items` meets its contract. Assumes nothing.
-use mathlib.Core.Path.{◌≡◌, ap, ◌∙◌}
-use mathlib.Core.Logic.{◌≢◌}
+use mathlib.Core.Path.{ap, ◌∙◌}
 use native.Mathlib.Omega.{arith}
-use lib.ListN.{length, take}
-use Rattle.std.proofs.Common.{rules, tests}
-use Rattle.std.proofs.lemmas.Iterator.{YieldsList-from_slice, IsFirst-from_position}
+use lib.ListN.{length}
 use Rattle.std.proofs.lemmas.Option.{MatchOption-at_some, MatchOption-at_none}
 use Rattle.items.specs.Cut.{left_of}
 use Rattle.items.proofs.CutLaws.{cut_found, cut_none}
@@ -12,38 +9,22 @@ use Rattle.items.proofs.cut.ItemsIterator.next.Goals as goal
 
 pub returns-in-Some-clause-steps : goal.returns-in-Some-clause-steps
 returns-in-Some-clause-steps c =
-    let text = c.in_ok-text.text.now in
-    let start = take c.min.result text in
-    let f = MatchOption-at_some _ _ c.in-Some.end c.in-Some.is
-    (IsFirst-from_position _ _ _ (λ x. x ≡ 32) (λ x. x ≢ 32) c.position.ensures.ran (YieldsList-from_slice start (cc))
-    (λ x q k. search (rules, tests)) (λ x q k. search (rules, tests))) in
-    ap left_of c.in_ok-text.was ∙ cut_found text c.min.result c.in-Some.end c.min.ensures f.0 (f.1 0) (λ k i. f.2 k 0 (omega arith) i)
+    let f = MatchOption-at_some _ _ c.in-Some.end c.in-Some.is c.first_space.ensures.first in
+    ap left_of c.in_ok-text.was ∙ cut_found c.in_ok-text.text.now c.in-Some.end f.0 (f.1 0) (λ k i. f.2 k 0 (omega arith) i)
 
 pub returns-in-Some-clause-goes : goal.returns-in-Some-clause-goes
 returns-in-Some-clause-goes c =
-    let text = c.in_ok-text.text.now in
-    let start = take c.min.result text in
-    let f = MatchOption-at_some _ _ c.in-Some.end c.in-Some.is
-    (IsFirst-from_position _ _ _ (λ x. x ≡ 32) (λ x. x ≢ 32) c.position.ensures.ran (YieldsList-from_slice start (cc))
-    (λ x q k. search (rules, tests)) (λ x q k. search (rules, tests))) in
-    let e = ap length (ap left_of c.in_ok-text.was ∙ cut_found text c.min.result c.in-Some.end c.min.ensures f.0 (f.1 0) (λ k i. f.2 k 0 (omega arith) i)) in
-    record { on = λ _. (tt, tt, omega (arith, e)); keeps = tt; rests = λ _. tt }
+    let f = MatchOption-at_some _ _ c.in-Some.end c.in-Some.is c.first_space.ensures.first in
+    let e = cut_found c.in_ok-text.text.now c.in-Some.end f.0 (f.1 0) (λ k i. f.2 k 0 (omega arith) i) in
+    record { on = λ _. (tt, tt, omega (arith, ap length (ap left_of c.in_ok-text.was ∙ e))); keeps = tt; rests = λ _. tt }
 
 pub returns-in-None-clause-steps : goal.returns-in-None-clause-steps
 returns-in-None-clause-steps c =
-    let text = c.in_ok-text.text.now in
-    let start = take c.min.result text in
-    let f = MatchOption-at_none _ _ c.in-None.is
-    (IsFirst-from_position _ _ _ (λ x. x ≡ 32) (λ x. x ≢ 32) c.position.ensures.ran (YieldsList-from_slice start (cc))
-    (λ x q k. search (rules, tests)) (λ x q k. search (rules, tests))) in
-    ap left_of c.in_ok-text.was ∙ cut_none text c.min.result c.min.ensures (λ k i. f k 0 (omega arith) i)
+    let f = MatchOption-at_none _ _ c.in-None.is c.first_space.ensures.first in
+    ap left_of c.in_ok-text.was ∙ cut_none c.in_ok-text.text.now c.min.result c.min.ensures (λ k i. f k 0 (omega arith) i)
 
 pub returns-in-None-clause-goes : goal.returns-in-None-clause-goes
 returns-in-None-clause-goes c =
-    let text = c.in_ok-text.text.now in
-    let start = take c.min.result text in
-    let f = MatchOption-at_none _ _ c.in-None.is
-    (IsFirst-from_position _ _ _ (λ x. x ≡ 32) (λ x. x ≢ 32) c.position.ensures.ran (YieldsList-from_slice start (cc))
-    (λ x q k. search (rules, tests)) (λ x q k. search (rules, tests))) in
-    let e = ap length (ap left_of c.in_ok-text.was ∙ cut_none text c.min.result c.min.ensures (λ k i. f k 0 (omega arith) i)) in
-    record { on = λ _. (tt, tt, omega (arith, e)); keeps = tt; rests = λ _. tt }
+    let f = MatchOption-at_none _ _ c.in-None.is c.first_space.ensures.first in
+    let e = cut_none c.in_ok-text.text.now c.min.result c.min.ensures (λ k i. f k 0 (omega arith) i) in
+    record { on = λ _. (tt, tt, omega (arith, ap length (ap left_of c.in_ok-text.was ∙ e))); keeps = tt; rests = λ _. tt }
