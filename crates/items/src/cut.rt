@@ -7,7 +7,8 @@ ghost use Rattle.items.specs.Cut.{FirstSpace, left_of};
 #[derive(Clone, Copy)]
 pub struct Items<'t>(pub Option<&'t [u8]>);
 
-// The place of the first space among the first five bytes. A length that is known, as it is but at a line's end, spares a test at each.
+// The place of the first space among the first five bytes, where there are so many: with their number known, which fails at the end of a
+// line alone, no byte needs a test of its own whether it is there.
 #[inline]
 fn first_space(text: &[u8]) -> Option<usize>
     ensures within { IfSome result (λ i. i < length text.now) }

@@ -25,8 +25,8 @@ fn digit(b: u8) -> Option<u16>
     }
 }
 
-// One to three digits, after a minus or none. By hand, since `parse` takes a plus sign and any number of zeros; by their number and no loop,
-// which took longer than all else on a line.
+// One to three digits, after a minus or none. By hand, since `parse` takes a plus sign and any number of zeros, and by how many they are,
+// since a loop over so few costs more than they do.
 fn read_digits(minus: bool, digits: &[u8]) -> Option<Number>
     ensures { result ≡ signed_in minus digits.now }
 {
@@ -39,7 +39,8 @@ fn read_digits(minus: bool, digits: &[u8]) -> Option<Number>
     Some(Number { minus, size })
 }
 
-// What the bytes between two spaces say: a number with a minus or none, or no number.
+// What the bytes between two spaces say: a number with a minus or none, or no number. Always inlined, since a call for each item of a word
+// line costs as much again as its digits.
 #[inline(always)]
 pub fn read_number(item: &[u8]) -> Option<Number>
     ensures { result ≡ number_in item.now }
