@@ -49,7 +49,8 @@ module _ (minus : Bool) where
     unfolding signed_in is_number
     other_byte i l n = rw (all_other digits i l n, and-false (leb 1 (length digits) && leb (length digits) 3))
 
-  pub one : (digits : List ℕ) → length digits ≡ 1 → is_digit (get_or digits 0 0) ≡ true → signed_in minus digits ≡ number (get_or digits 0 0 - 48)
+  pub one : (digits : List ℕ) → length digits ≡ 1 → is_digit (get_or digits 0 0) ≡ true
+      → signed_in minus digits ≡ number (get_or digits 0 0 - 48)
   unfolding signed_in is_number number_of
   one [] l a = absurd (omega arith)
   one (x ∷ []) l a = rw a (ap number (omega arith))
