@@ -51,7 +51,8 @@ module _ (parts : List (List ℕ)) (count : ℕ) (item : List ℕ) (w : Uncut pa
   pub turn_of : count < length (cut_off parts) → item ≡ get_or (cut_off parts) count item → Turn parts count item
   unfolding cut_off
   turn_of h e =
-      go (drop count parts) refl (sym w ∙ drop-cons (cut_off parts) count item h ∙ ap (λ (x : List ℕ). x ∷ drop (suc count) (cut_off parts)) (sym e))
+      go (drop count parts) refl (sym w ∙ drop-cons (cut_off parts) count item h
+      ∙ ap (λ (x : List ℕ). x ∷ drop (suc count) (cut_off parts)) (sym e))
     where
       go : (left : List (List ℕ)) → drop count parts ≡ left → cut_off left ≡ item ∷ drop (suc count) (cut_off parts) → Turn parts count item
       go [] q k = cc

@@ -48,7 +48,8 @@ returns-in_err-values-clause-holds c =
     let l = c.loop-item in
     let t = turn (goal.at.returns-in_err-values-clause-holds c).After-read_value in
     ap (option_map (λ count. take count c.loop-item.values)) c.from_residual.ensures
-    ∙ sym (values_wrong text l.values l.count l.invariant.reading t.first t.there t.at (first_wrong _ _ _ t (refused _ _ c.in_err-values.ensures)))
+    ∙ sym (values_wrong text l.values l.count l.invariant.reading t.first t.there t.at
+    (first_wrong _ _ _ t (refused _ _ c.in_err-values.ensures)))
 
 pub bounds-values-count : goal.bounds-values-count
 bounds-values-count c =
@@ -57,7 +58,8 @@ bounds-values-count c =
     let t = turn (goal.at.bounds-values-count c).After-read_value in
     omega (
       arith,
-      values_room text l.values l.count l.invariant.reading t.first t.there t.at _ (first_taken _ _ _ t _ (taken _ _ _ c.in_ok-values.ensures))
+      values_room text l.values l.count l.invariant.reading t.first t.there t.at _
+          (first_taken _ _ _ t _ (taken _ _ _ c.in_ok-values.ensures))
           l.invariant.room,
       l.invariant.within,
     )
