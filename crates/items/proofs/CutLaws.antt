@@ -1,5 +1,5 @@
 -- A line cut item by item, where its first item ends and where that item has more than four bytes.
---   is_space, Spaceless   a space; no byte below a place is one
+--   Spaceless             no byte below a place is a space
 --   drop_all               all that follows a place
 --   first_cut, only_item, Begins, begins   the first item ends at the first space, or is the whole text; or it has so many bytes at least
 --   cut_found, cut_none    what comes first of a line, with a space within its first five bytes and with none
