@@ -1,14 +1,15 @@
 -- What read comes to: `reading_after 0` says what its record permits of a word, and what the code finds in a word is what it says, given
 -- what its callees say.
 --   reading_taken, reading_pad, reading_unsent, reading_root   what it says, by what the word is
---   found_pad, found_unsent, found_root                        and by what the code finds, in the order in which it looks
+--   found_pad, found_unsent, found_other                       and by what the code finds, in the order in which it looks
+--   found_root, found_message                                  and by what is left of the word alone
 --   word_answers_lem, read_refuses                             its record permits that
 -- Assumes nothing.
 use mathlib.Core.Path.{◌≡◌, sym, ap, ◌∙◌, subst}
-use mathlib.Core.Logic.{◌≢◌}
+use mathlib.Core.Logic.{◌≢◌, ⊎_elim}
 use mathlib.Core.Bool.{Bool, cond}
 use mathlib.Core.List.{List}
-use Prim.Native.Nat.{ℕ, suc, ◌-◌, ◌*◌, ◌/◌, ◌^◌, ◌<◌, ◌≤◌}
+use Prim.Native.Nat.{ℕ, suc, ◌+◌, ◌-◌, ◌*◌, ◌/◌, ◌^◌, ◌<◌, ◌≤◌}
 use native.Mathlib.Nat.{le_trans, div-eq_of_lt}
 use native.Mathlib.Omega.{arith}
 use lib.Pow.{pow_mono}
@@ -18,7 +19,7 @@ use Rattle.field.specs.Field.{◌⊕◌, length_of}
 use Rattle.field.specs.Lowest.{Lowest, lowest_of}
 use Rattle.field.proofs.TestLaws.{is_true, is_false, and_left, and_right, and_both, eq→eqb}
 use Rattle.field.proofs.XorLaws.{xor_lt}
-use Rattle.field.proofs.LowestLaws.{lowest_is}
+use Rattle.field.proofs.LowestLaws.{lowest_is, lowest_at, lowest_cases}
 use Rattle.codes.specs.Code.{Known, dimension_of, parity_of}
 use Rattle.codes.specs.Codeword.{bit_of, value_at, Codeword}
 use Rattle.codes.specs.Generator.{systematic}
@@ -110,8 +111,22 @@ module _ (m t s w : ℕ) (k : Known m t) (short : s < dimension_of m t) where
     power_is : lowest_of 1 (2 * t) (value_at m (bit_of left)) ≡ lowest_of 1 (2 * t) f
     power_is = power_left m t s w k (systematic m t message) taken_off
 
-    pub found_root : systematic m t message ≢ w → reading_after 0 m t s w ≡ fault_at 10 (lowest_of 1 (2 * t) (value_at m (bit_of left)))
-    found_root n = reading_faulty (λ r. n (readable_again r)) ∙ fault_root m t s w fits below ∙ ap (fault_at 10) (sym power_is)
+    pub found_other : systematic m t message ≢ w → reading_after 0 m t s w ≡ fault_at 10 (lowest_of 1 (2 * t) (value_at m (bit_of left)))
+    found_other n = reading_faulty (λ r. n (readable_again r)) ∙ fault_root m t s w fits below ∙ ap (fault_at 10) (sym power_is)
+
+    -- and by what is left alone: its lowest root at fault, or none
+    pub found_root : (e : ℕ) → Lowest 1 (2 * t) (value_at m (bit_of left)) e → reading_after 0 m t s w ≡ fault_at 10 e
+    found_root e h =
+        let q : lowest_of 1 (2 * t) f ≡ e = sym power_is ∙ lowest_is (value_at m (bit_of left)) 1 (2 * t) e h in
+        let high = h.high in
+        ⊎_elim (λ z. absurd (omega (arith, q, lowest_at f 1 (2 * t) (1 + 2 * t) (omega arith) (omega arith) z (λ a. absurd (omega arith)))))
+        (λ u. reading_faulty (λ r. u.nonzero (r.codeword.roots _ u.low u.high)) ∙ fault_root m t s w fits below ∙ ap (fault_at 10) q)
+        (lowest_cases f 1 (2 * t))
+
+    pub found_message : lowest_of 1 (2 * t) (value_at m (bit_of left)) ≡ 1 + 2 * t → reading_after 0 m t s w ≡ says 0 message
+    found_message e =
+        ⊎_elim (λ z. reading_taken (record { codeword = record { bits = within; roots = z }; unsent = below }))
+        (λ u. let high = u.high in absurd (omega (arith, power_is))) (lowest_cases f 1 (2 * t))
 
   module _ (wide : w < 2 ^ suc (length_of m)) where
     pub reading_pad : bit_of w (length_of m) ≡ 1 → reading_after 0 m t s w ≡ says 8 0

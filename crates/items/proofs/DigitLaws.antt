@@ -1,23 +1,26 @@
 -- A number, digit by digit.
 --   digit_low   how large a digit is
 --   wrong_length, other_byte, one, two, three   what bytes are as a number: not one to three, one that is no digit, so many digits
---   number_minus, number_plain   what an item is, by its first byte
+--   whole   and all digits, read as far as they go
+--   number_minus, number_plain   what an item is, by whether it begins with a minus
+--   first_minus, first_plain   and by its first byte
 --   no_digit, a_digit   what a byte is by the answer to it
 -- Assumes nothing.
-use mathlib.Core.Path.{◌≡◌, refl, sym, ap, subst}
-use mathlib.Core.Bool.{Bool, true, false, cond, ◌&&◌, and-false}
+use mathlib.Core.Path.{◌≡◌, refl, sym, ap, subst, ◌∙◌}
+use mathlib.Core.Bool.{Bool, true, false, cond, ◌&&◌, and-false, and-true, true≢false}
 use mathlib.Core.Logic.{by_cases}
 use mathlib.Core.List.{List, [], ◌∷◌}
 use Prim.Native.Nat.{ℕ, zero, suc, ◌+◌, ◌-◌, ◌*◌, ◌≤◌, ◌<◌}
 use native.Mathlib.Decide.{dec_le}
 use native.Mathlib.Omega.{arith}
-use borrow.Author.Tests.{lt-leb, eq-eqb, ne_eqb}
-use lib.Dec.{T, leb, leb→le}
-use lib.ListN.{length, get_or, take, drop}
+use borrow.Author.Tests.{le-leb, lt-leb, eq-eqb, ne_eqb}
+use lib.Dec.{T, leb, eqb, leb→le}
+use lib.ListN.{length, get_or, take, drop, drop_of_length-le}
+use lib.Pointwise.{pointwise}
 use lib.Seq.{take-length}
 use Rattle.field.proofs.TestLaws.{and_left}
 use Rattle.std.specs.Prelude.{Option, Some, None}
-use Rattle.items.specs.Line.{is_digit, all_digits, is_number, number_of}
+use Rattle.items.specs.Line.{is_digit, all_digits, is_number, number_from, number_of}
 use Rattle.items.specs.Number.{signed_in, number_in}
 use Rattle.items.specs.declared.Number.{Number}
 
@@ -49,6 +52,16 @@ module _ (minus : Bool) where
     unfolding signed_in is_number
     other_byte i l n = rw (all_other digits i l n, and-false (leb 1 (length digits) && leb (length digits) 3))
 
+    -- where no more of them is left, the number so far is all of it
+    pub whole : (i size : ℕ) → 1 ≤ length digits → length digits ≤ 3 → length digits ≤ i
+        → all_digits (drop i digits) ≡ all_digits digits → number_from size (drop i digits) ≡ number_from 0 digits
+        → signed_in minus digits ≡ Some (record { minus = minus; size = size })
+    unfolding signed_in is_number number_of
+    whole i size low high h e f =
+        let none : drop i digits ≡ [] = drop_of_length-le digits h in
+        let all : all_digits digits ≡ true = sym e ∙ ap all_digits none in
+        rw (le-leb 1 (length digits) low, le-leb (length digits) 3 high, all) (ap number (sym f ∙ ap (number_from size) none))
+
   pub one : (digits : List ℕ) → length digits ≡ 1 → is_digit (get_or digits 0 0) ≡ true
       → signed_in minus digits ≡ number (get_or digits 0 0 - 48)
   unfolding signed_in is_number number_of
@@ -74,19 +87,30 @@ module _ (minus : Bool) where
   three (x ∷ y ∷ z ∷ []) l a b d = rw (a, b, d) (ap number (omega arith))
   three (x ∷ y ∷ z ∷ w ∷ digits) l a b d = absurd (omega arith)
 
--- by its first byte, an item is a number with a minus or without
-pub number_minus : (item : List ℕ) → 1 ≤ length item → get_or item 0 0 ≡ 45
+-- an item is a number with a minus or without, by whether it begins with one
+pub number_minus : (item : List ℕ) → pointwise eqb (take 1 item) (45 ∷ []) ≡ true → number_in item ≡ signed_in true (drop 1 item)
+unfolding number_in
+number_minus [] e = absurd (true≢false (sym e))
+number_minus (b ∷ item) e = rw (sym (and-true (eqb b 45)) ∙ e)
+
+pub number_plain : (item : List ℕ) → pointwise eqb (take 1 item) (45 ∷ []) ≡ false → number_in item ≡ signed_in false item
+unfolding number_in
+number_plain [] e = refl
+number_plain (b ∷ item) e = rw (sym (and-true (eqb b 45)) ∙ e)
+
+-- and by its first byte
+pub first_minus : (item : List ℕ) → 1 ≤ length item → get_or item 0 0 ≡ 45
     → number_in item ≡ signed_in true (take (length item - 1) (drop 1 item))
 unfolding number_in
-number_minus [] l e = absurd (omega arith)
-number_minus (b ∷ item) l e =
+first_minus [] l e = absurd (omega arith)
+first_minus (b ∷ item) l e =
     let n : suc (length item) - 1 ≡ length item = omega arith in
     rw (eq-eqb b 45 e, n, take-length item)
 
-pub number_plain : (item : List ℕ) → (1 ≤ length item → get_or item 0 0 ≡ 45 → ⊥) → number_in item ≡ signed_in false item
+pub first_plain : (item : List ℕ) → (1 ≤ length item → get_or item 0 0 ≡ 45 → ⊥) → number_in item ≡ signed_in false item
 unfolding number_in
-number_plain [] n = refl
-number_plain (b ∷ item) n = rw (ne_eqb b 45 (n (omega arith)))
+first_plain [] n = refl
+first_plain (b ∷ item) n = rw (ne_eqb b 45 (n (omega arith)))
 
 -- a byte by the digit that it is
 pub no_digit : (b : ℕ) → ◌≡◌ {A = Option ℕ} None (cond (is_digit b) (Some (b - 48)) None) → is_digit b ≡ false

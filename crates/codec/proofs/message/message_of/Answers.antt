@@ -7,7 +7,7 @@ use Rattle.codes.specs.Code.{parity_of}
 use Rattle.codes.specs.Codeword.{bit_of}
 use Rattle.codes.specs.Generator.{systematic}
 use Rattle.codec.specs.GivenBack.{fault_at}
-use Rattle.codec.proofs.ReadLaws.{found_pad, found_unsent, found_message_lt, found_left_lt, found_root}
+use Rattle.codec.proofs.ReadLaws.{found_pad, found_unsent, found_message_lt, found_left_lt, found_other}
 use Rattle.codec.proofs.message.message_of.Goals as goal
 
 -- no bit above those that are sent, or some
@@ -65,5 +65,5 @@ returns c =
     let w = c.args.word in
     let e = again x.code.m x.code.t w c.parity.ensures.parity c.word_of-coded.ensures in
     ap (fault_at 10) (rw e at c.lowest_power-power.ensures)
-    ∙ sym (found_root x.code.m x.code.t x.s w x.code.known x.short (none w c.sent-sent.ensures.sent c.if-word-sent-gt0.false)
+    ∙ sym (found_other x.code.m x.code.t x.s w x.code.known x.short (none w c.sent-sent.ensures.sent c.if-word-sent-gt0.false)
     (λ q. c.if-coded-word.false (e ∙ q)))
