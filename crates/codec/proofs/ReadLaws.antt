@@ -18,12 +18,14 @@ use lib.ListN.{length}
 use Rattle.field.specs.Field.{◌⊕◌, length_of}
 use Rattle.field.specs.Lowest.{Lowest, lowest_of}
 use Rattle.field.proofs.TestLaws.{is_true, is_false, and_left, and_right, and_both, eq→eqb}
-use Rattle.field.proofs.XorLaws.{xor_lt}
-use Rattle.field.proofs.LowestLaws.{lowest_is, lowest_at, lowest_cases}
+use Rattle.field.proofs.XorLaws.{xor_lt, xor_self}
+use Rattle.field.proofs.LowestLaws.{lowest_is, lowest_cases}
+use Rattle.field.proofs.FieldLaws.{laws}
 use Rattle.codes.specs.Code.{Known, dimension_of, parity_of}
 use Rattle.codes.specs.Codeword.{bit_of, value_at, Codeword}
 use Rattle.codes.specs.Generator.{systematic}
 use Rattle.codes.proofs.ShapeLaws.{parity_full}
+use Rattle.codes.proofs.GeneratorRight.{at_bits}
 use Rattle.codes.proofs.WordLaws.{below_div, high_below}
 use Rattle.codes.proofs.LowestOne.{none_from}
 use Rattle.codes.proofs.SystematicWord.{systematic_high, systematic_codeword, codeword_high}
@@ -117,11 +119,9 @@ module _ (m t s w : ℕ) (k : Known m t) (short : s < dimension_of m t) where
     -- and by what is left alone: its lowest root at fault, or none
     pub found_root : (e : ℕ) → Lowest 1 (2 * t) (value_at m (bit_of left)) e → reading_after 0 m t s w ≡ fault_at 10 e
     found_root e h =
-        let q : lowest_of 1 (2 * t) f ≡ e = sym power_is ∙ lowest_is (value_at m (bit_of left)) 1 (2 * t) e h in
-        let high = h.high in
-        ⊎_elim (λ z. absurd (omega (arith, q, lowest_at f 1 (2 * t) (1 + 2 * t) (omega arith) (omega arith) z (λ a. absurd (omega arith)))))
-        (λ u. reading_faulty (λ r. u.nonzero (r.codeword.roots _ u.low u.high)) ∙ fault_root m t s w fits below ∙ ap (fault_at 10) q)
-        (lowest_cases f 1 (2 * t))
+        found_other (λ q. h.nonzero (at_bits m (laws m k.m_low k.m_high) w (systematic m t message) e
+        ∙ ap (λ (c : ℕ). f e ⊕ value_at m (bit_of c) e) q ∙ xor_self (f e)))
+        ∙ ap (fault_at 10) (lowest_is (value_at m (bit_of left)) 1 (2 * t) e h)
 
     pub found_message : lowest_of 1 (2 * t) (value_at m (bit_of left)) ≡ 1 + 2 * t → reading_after 0 m t s w ≡ says 0 message
     found_message e =

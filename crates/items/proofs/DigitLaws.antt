@@ -1,7 +1,7 @@
 -- A number, digit by digit.
 --   digit_low   how large a digit is
 --   wrong_length, other_byte, one, two, three   what bytes are as a number: not one to three, one that is no digit, so many digits
---   whole   and all digits, read as far as they go
+--   whole   and all digits, read one after another to their end
 --   number_minus, number_plain   what an item is, by whether it begins with a minus
 --   first_minus, first_plain   and by its first byte
 --   no_digit, a_digit   what a byte is by the answer to it
@@ -17,12 +17,12 @@ use borrow.Author.Tests.{le-leb, lt-leb, eq-eqb, ne_eqb}
 use lib.Dec.{T, leb, eqb, leb→le}
 use lib.ListN.{length, get_or, take, drop, drop_of_length-le}
 use lib.Pointwise.{pointwise}
-use lib.Seq.{take-length}
 use Rattle.field.proofs.TestLaws.{and_left}
 use Rattle.std.specs.Prelude.{Option, Some, None}
 use Rattle.items.specs.Line.{is_digit, all_digits, is_number, number_from, number_of}
 use Rattle.items.specs.Number.{signed_in, number_in}
 use Rattle.items.specs.declared.Number.{Number}
+use Rattle.items.proofs.CutLaws.{drop_all}
 
 pub is_so : {b : Bool} → b ≡ true → T b
 is_so e = subst T (sym e) tt
@@ -98,19 +98,22 @@ unfolding number_in
 number_plain [] e = refl
 number_plain (b ∷ item) e = rw (sym (and-true (eqb b 45)) ∙ e)
 
--- and by its first byte
+-- and by its first byte: the same, since the first byte of no bytes is told as 0
+first_byte : (item : List ℕ) → pointwise eqb (take 1 item) (45 ∷ []) ≡ eqb (get_or item 0 0) 45
+first_byte [] = refl
+first_byte (b ∷ item) = and-true (eqb b 45)
+
+has_byte : (item : List ℕ) → get_or item 0 0 ≡ 45 → 1 ≤ length item
+has_byte [] e = absurd (omega (arith, e))
+has_byte (b ∷ item) e = omega arith
+
 pub first_minus : (item : List ℕ) → 1 ≤ length item → get_or item 0 0 ≡ 45
     → number_in item ≡ signed_in true (take (length item - 1) (drop 1 item))
-unfolding number_in
-first_minus [] l e = absurd (omega arith)
-first_minus (b ∷ item) l e =
-    let n : suc (length item) - 1 ≡ length item = omega arith in
-    rw (eq-eqb b 45 e, n, take-length item)
+first_minus item l e =
+    number_minus item (first_byte item ∙ eq-eqb (get_or item 0 0) 45 e) ∙ ap (signed_in true) (sym (drop_all 1 item))
 
 pub first_plain : (item : List ℕ) → (1 ≤ length item → get_or item 0 0 ≡ 45 → ⊥) → number_in item ≡ signed_in false item
-unfolding number_in
-first_plain [] n = refl
-first_plain (b ∷ item) n = rw (ne_eqb b 45 (n (omega arith)))
+first_plain item n = number_plain item (first_byte item ∙ ne_eqb (get_or item 0 0) 45 (λ e. n (has_byte item e) e))
 
 -- a byte by the digit that it is
 pub no_digit : (b : ℕ) → ◌≡◌ {A = Option ℕ} None (cond (is_digit b) (Some (b - 48)) None) → is_digit b ≡ false
